@@ -1,0 +1,2 @@
+// The state word of a task cell.
+pub mod state;
