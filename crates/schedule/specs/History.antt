@@ -1,0 +1,68 @@
+-- What happened to a policy: the orders it was given, each with its answer, the newest first.
+use Prim.Native.Nat.{ℕ, _-_}
+use mathlib.Core.Path.{_≡_}
+use mathlib.Core.Bool.{Bool, true, false, cond, not, _&&_}
+use mathlib.Core.List.{List, [], _∷_, _++_, reverse}
+use lib.Dec.{eqb, ltb}
+use lib.ListN.{length}
+use Rattle.std.specs.shelf.Lists.{countBy}
+use Rattle.schedule.specs.declared.orders.Order.{Order}
+use Rattle.schedule.specs.declared.orders.Order.the-variants.{Put, Take}
+use Rattle.schedule.specs.declared.orders.Answer.{Answer}
+use Rattle.schedule.specs.declared.orders.Answer.the-variants.{Accepted, Refused, Gave, Empty}
+
+pub data Event : Type 0 where
+  event : Order → Answer → Event
+
+-- each order beside its answer
+abbrev pub beside : List Order → List Answer → List Event
+beside [] answers = []
+beside (o ∷ orders) [] = []
+beside (o ∷ orders) (a ∷ answers) = event o a ∷ beside orders answers
+
+-- the history of a list of orders, each with its answer
+abbrev pub history : List Order → List Answer → List Event
+history orders answers = reverse (beside orders answers)
+
+-- the number that an event put in: that of a put that was accepted
+abbrev pub put-in : Event → List ℕ
+put-in (event (Put b m) Accepted) = b ∷ []
+put-in (event (Put b m) Refused) = []
+put-in (event (Put b m) (Gave c)) = []
+put-in (event (Put b m) Empty) = []
+put-in (event Take a) = []
+
+-- the number that an event took out: that which a take gave
+abbrev pub took-out : Event → List ℕ
+took-out (event (Put b m) a) = []
+took-out (event Take Accepted) = []
+took-out (event Take Refused) = []
+took-out (event Take (Gave b)) = b ∷ []
+took-out (event Take Empty) = []
+
+-- the numbers put in, one after another
+abbrev pub ins : List Event → List ℕ
+ins [] = []
+ins (e ∷ h) = ins h ++ put-in e
+
+-- the numbers taken out, one after another
+abbrev pub outs : List Event → List ℕ
+outs [] = []
+outs (e ∷ h) = outs h ++ took-out e
+
+-- how often a number stands in a list
+abbrev pub times : ℕ → List ℕ → ℕ
+times b xs = countBy (λ x. eqb x b) xs
+
+-- the number has been put in once more than it was taken out
+abbrev pub inside : ℕ → List Event → Bool
+inside b h = ltb (times b (outs h)) (times b (ins h))
+
+-- how many numbers have been put in and not taken out
+abbrev pub held : List Event → ℕ
+held h = length (ins h) - length (outs h)
+
+-- something holds of each event, with the history before it
+abbrev pub Each : (List Event → Event → Type 0) → List Event → Type 0
+Each P [] = Unit {0}
+Each P (e ∷ h) = P h e × Each P h
