@@ -34,7 +34,7 @@ gives-by false o p f e = absurd (let z : _≡_ {A = ℕ} 0 1 = cc in omega arith
 
 -- the last word of a run that is finished
 last-word : {F O : Type 0} (step : F → ℕ → Step F O) (f : F) (ws : List ℕ) (p : ℕ) (o : O) → p < length ws → through step f (take (p + 1) ws) ≡ finished o
-  → (g : F) × (through step f (take p ws) ≡ standing g) × (step g (getD ws p 0) ≡ gives o)
+    → (g : F) × (through step f (take p ws) ≡ standing g) × (step g (getD ws p 0) ≡ gives o)
 last-word step f ws p o h e = finishes step f (take p ws) (getD ws p 0) o (ap (through step f) (sym (take-more ws p 0 h)) ∙ e)
 
 -- a countdown that stands has one poll fewer left for each word
@@ -57,8 +57,8 @@ pub counts-down : (n : ℕ) (ws : List ℕ) (r : Played ℕ) (later : Countdown)
 counts-down n ws r later h = by-output (r .pending) (r .output) h
   where
     by-output : (p : ℕ) (out : Option ℕ)
-      → Cases out ((p ≡ length ws) × (through countdown-step (countdown-start n) ws ≡ standing later)) (λ o. (p < length ws) × (through countdown-step (countdown-start n) (take (p + 1) ws) ≡ finished o))
-      → (p ≡ min n (length ws)) × (out ≡ cond (ltb n (length ws)) (Some n) None)
+        → Cases out ((p ≡ length ws) × (through countdown-step (countdown-start n) ws ≡ standing later)) (λ o. (p < length ws) × (through countdown-step (countdown-start n) (take (p + 1) ws) ≡ finished o))
+        → (p ≡ min n (length ws)) × (out ≡ cond (ltb n (length ws)) (Some n) None)
     by-output p None (e, t) = let c = counted n ws later t in (omega arith, grind (arith, tells))
     by-output p (Some o) (l, t) =
         let s = last-word countdown-step (countdown-start n) ws p o l t in
@@ -94,7 +94,7 @@ stretched goal ws t e =
 
 -- while it stands, no word so far has reached the goal
 unreached : (goal : ℕ) (ws : List ℕ) (p : ℕ) (t : Transfer) → p ≤ length ws → through transfer-step (transfer-start goal) (take p ws) ≡ standing t
-  → (i : ℕ) → i < p → Reached goal ws i → ⊥
+    → (i : ℕ) → i < p → Reached goal ws i → ⊥
 unreached goal ws p t l e i h reached =
     let s = stretched goal (take p ws) t e in
     let n = length-take p ws in
@@ -107,9 +107,9 @@ pub transfers : (goal : ℕ) (ws : List ℕ) (r : Played Recording) (later : Tra
 transfers goal ws r later h = by-output (r .pending) (r .output) h
   where
     by-output : (p : ℕ) (out : Option Recording)
-      → Cases out ((p ≡ length ws) × (through transfer-step (transfer-start goal) ws ≡ standing later)) (λ o. (p < length ws) × (through transfer-step (transfer-start goal) (take (p + 1) ws) ≡ finished o))
-      → ((i : ℕ) → i < p → Reached goal ws i → ⊥)
-      × Cases out (p ≡ length ws) (λ o. (p < length ws) × Reached goal ws p × (o ≡ record { seconds = goal; polls = min (p + 1) 4294967295 }))
+        → Cases out ((p ≡ length ws) × (through transfer-step (transfer-start goal) ws ≡ standing later)) (λ o. (p < length ws) × (through transfer-step (transfer-start goal) (take (p + 1) ws) ≡ finished o))
+        → ((i : ℕ) → i < p → Reached goal ws i → ⊥)
+        × Cases out (p ≡ length ws) (λ o. (p < length ws) × Reached goal ws p × (o ≡ record { seconds = goal; polls = min (p + 1) 4294967295 }))
     by-output p None (e, t) =
         (unreached goal ws p later (omega arith) (ap (through transfer-step (transfer-start goal)) (take-all p ws (omega arith)) ∙ t), e)
     by-output p (Some o) (l, t) =

@@ -25,7 +25,7 @@ module _ {F O : Type 0} (step : F → ℕ → Step F O) where
 
   -- one word more on a future that stands
   pub through-more : (f g : F) (ws : List ℕ) (i : ℕ) → i < length ws → through step f (take i ws) ≡ standing g
-    → through step f (take (i + 1) ws) ≡ after-step (step g (getD ws i 0))
+      → through step f (take (i + 1) ws) ≡ after-step (step g (getD ws i 0))
   through-more f g ws i h e =
       ap (through step f) (take-more ws i 0 h) ∙ polls-push (standing f) (take i ws) (getD ws i 0) ∙ ap (λ t. poll-on step t (getD ws i 0)) e
 
@@ -41,7 +41,7 @@ module _ {F O : Type 0} (step : F → ℕ → Step F O) where
   -- what holds at the start, and after each poll that gave Pending, holds of a future that stands
   module _ (I : List ℕ → F → Type 0) (kept : (ws : List ℕ) (g : F) (w : ℕ) (h : F) → I ws g → step g w ≡ pends h → I (ws ++ w ∷ []) h) where
     one-further : (past ws : List ℕ) (f g : F) (w : ℕ) (s : Step F O) → step f w ≡ s → I past f → polls-on step (after-step s) ws ≡ standing g
-      → ((p : List ℕ) (h : F) → I p h → through step h ws ≡ standing g → I (p ++ ws) g) → I (past ++ w ∷ ws) g
+        → ((p : List ℕ) (h : F) → I p h → through step h ws ≡ standing g → I (p ++ ws) g) → I (past ++ w ∷ ws) g
     one-further past ws f g w (pends h) p i e more =
         subst (λ l. I l g) (append-assoc past (w ∷ []) ws) (more (past ++ w ∷ []) h (kept past f w h i p) e)
     one-further past ws f g w (gives o) p i e more = absurd (finished-stands o g ws e)
@@ -56,7 +56,7 @@ module _ {F O : Type 0} (step : F → ℕ → Step F O) where
 
   -- a run that is finished stood before its last word, which gave Ready
   pub finishes : (f : F) (ws : List ℕ) (w : ℕ) (o : O) → through step f (ws ++ w ∷ []) ≡ finished o
-    → (g : F) × (through step f ws ≡ standing g) × (step g w ≡ gives o)
+      → (g : F) × (through step f ws ≡ standing g) × (step g w ≡ gives o)
   finishes f ws w o e = last (through step f ws) refl (sym (polls-push (standing f) ws w) ∙ e)
     where
       given : (s : Step F O) → after-step s ≡ finished o → s ≡ gives o

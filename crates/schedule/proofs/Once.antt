@@ -9,8 +9,6 @@ use lib.ListN.{length, drop, take, getD, length-append}
 use Rattle.std.proofs.shelf.Ways.{tells}
 use Rattle.std.proofs.shelf.Lists.{reverse-append, take-more, length-take}
 use Rattle.std.proofs.shelf.Sorted.{length-shuffled}
-use Rattle.std.proofs.shelf.Tests.{false≢true}
-use Rattle.std.specs.Options.{isSome}
 use Rattle.std.specs.Slices.{Shuffled}
 use Rattle.schedule.specs.declared.Schedule.{Ghosts}
 use Rattle.schedule.specs.declared.orders.Order.{Order}
@@ -43,9 +41,8 @@ held-is : (h : List Event) (es : List ℕ) → length (ins h) ≡ length (outs h
 held-is h es e = omega arith
 
 module _ {S : Type 0} (P : Ghosts S)
-  (single : (s : S) → P .agrees s → distinct (P .entries s) ≡ true)
-  (keeps : (s : S) (b : ℕ) (m : Bool) → P .agrees s → Shuffled (b ∷ P .entries s) (P .after s b m)) where
-
+    (single : (s : S) → P .agrees s → distinct (P .entries s) ≡ true)
+    (keeps : (s : S) (b : ℕ) (m : Bool) → P .agrees s → Shuffled (b ∷ P .entries s) (P .after s b m)) where
   -- a history in step with the policy that it leaves
   pub record Keeps (n : ℕ) (h : List Event) (s : S) : Type 0 where
     pub agree : P .agrees s
@@ -56,7 +53,7 @@ module _ {S : Type 0} (P : Ghosts S)
 
   -- a put is accepted by the history exactly if it is by the entries
   accepted-is : (n b : ℕ) (h : List Event) (s : S) → Keeps n h s
-    → accepts b (P .entries s) (P .places s) ≡ (ltb b 64 && (not (inside b h) && ltb (held h) n))
+      → accepts b (P .entries s) (P .places s) ≡ (ltb b 64 && (not (inside b h) && ltb (held h) n))
   accepted-is n b h s k =
       let i = inside-is b h (P .entries s) (k .balance b) in
       let j = held-is h (P .entries s) (k .long) in
@@ -65,64 +62,65 @@ module _ {S : Type 0} (P : Ghosts S)
 
   -- one event more: what it put in and what was there is what it took out and what is there now
   keeps-more : (n : ℕ) (h : List Event) (e : Event) (s s′ : S) → Keeps n h s → P .agrees s′ → P .places s′ ≡ P .places s → Ruled n h e
-    → ((c : ℕ) → times c (put-in e) + times c (P .entries s) ≡ times c (took-out e) + times c (P .entries s′))
-    → length (put-in e) + length (P .entries s) ≡ length (took-out e) + length (P .entries s′) → Keeps n (e ∷ h) s′
-  keeps-more n h e s s′ k g p r times-moved long-moved = record
-      { agree = g
-      ; room = p ∙ k .room
-      ; answers = (r, k .answers)
-      ; balance = λ c.
-          ( let i = times-append c (ins h) (put-in e) in
-            let o = times-append c (outs h) (took-out e) in
-            let m = times-moved c in
-            let q = k .balance c in
-            omega arith )
-      ; long =
-          ( let i = length-append (ins h) (put-in e) in
-            let o = length-append (outs h) (took-out e) in
-            let q = k .long in
-            omega arith ) }
+      → ((c : ℕ) → times c (put-in e) + times c (P .entries s) ≡ times c (took-out e) + times c (P .entries s′))
+      → length (put-in e) + length (P .entries s) ≡ length (took-out e) + length (P .entries s′) → Keeps n (e ∷ h) s′
+  keeps-more n h e s s′ k g p r times-moved long-moved = record {
+    agree = g;
+    room = p ∙ k .room;
+    answers = (r, k .answers);
+    balance = λ c.
+        (let i = times-append c (ins h) (put-in e) in
+        let o = times-append c (outs h) (took-out e) in
+        let m = times-moved c in
+        let q = k .balance c in
+        omega arith);
+    long =
+        (let i = length-append (ins h) (put-in e) in
+        let o = length-append (outs h) (took-out e) in
+        let q = k .long in
+        omega arith);
+  }
 
   put-kept : (n b : ℕ) (m t : Bool) (h : List Event) (s s′ : S) (a : Answer) → Keeps n h s → accepts b (P .entries s) (P .places s) ≡ t
-    → a ≡ cond t Accepted Refused → P .entries s′ ≡ cond t (P .after s b m) (P .entries s) → P .places s′ ≡ P .places s → P .agrees s′
-    → Keeps n (event (Put b m) a ∷ h) s′
+      → a ≡ cond t Accepted Refused → P .entries s′ ≡ cond t (P .after s b m) (P .entries s) → P .places s′ ≡ P .places s → P .agrees s′
+      → Keeps n (event (Put b m) a ∷ h) s′
   put-kept n b m true h s s′ a k t e i p g =
       let sh = keeps s b m (k .agree) in
       subst (λ x. Keeps n (event (Put b m) x ∷ h) s′) (sym e)
-      ( keeps-more n h (event (Put b m) Accepted) s s′ k g p (sym (ap (λ x. cond x Accepted Refused) (sym (accepted-is n b h s k) ∙ t)))
-        (λ c. let v : times c (P .entries s′) ≡ times c (b ∷ P .entries s) = ap (times c) i ∙ times-shuffled c _ _ sh in
-              let w = times-cons c b (P .entries s) in
-              let u = times-cons c b [] in
-              omega arith)
-        (let y = length-shuffled _ _ sh in let l : length (P .entries s′) ≡ length (P .after s b m) = ap length i in omega arith) )
+      (keeps-more n h (event (Put b m) Accepted) s s′ k g p (sym (ap (λ x. cond x Accepted Refused) (sym (accepted-is n b h s k) ∙ t)))
+      (λ c. let v : times c (P .entries s′) ≡ times c (b ∷ P .entries s) = ap (times c) i ∙ times-shuffled c _ _ sh in
+      let w = times-cons c b (P .entries s) in
+      let u = times-cons c b [] in
+      omega arith)
+      (let y = length-shuffled _ _ sh in let l : length (P .entries s′) ≡ length (P .after s b m) = ap length i in omega arith))
   put-kept n b m false h s s′ a k t e i p g =
       subst (λ x. Keeps n (event (Put b m) x ∷ h) s′) (sym e)
-      ( keeps-more n h (event (Put b m) Refused) s s′ k g p (sym (ap (λ x. cond x Accepted Refused) (sym (accepted-is n b h s k) ∙ t)))
-        (λ c. let v : times c (P .entries s′) ≡ times c (P .entries s) = ap (times c) i in omega arith)
-        (let l : length (P .entries s′) ≡ length (P .entries s) = ap length i in omega arith) )
+      (keeps-more n h (event (Put b m) Refused) s s′ k g p (sym (ap (λ x. cond x Accepted Refused) (sym (accepted-is n b h s k) ∙ t)))
+      (λ c. let v : times c (P .entries s′) ≡ times c (P .entries s) = ap (times c) i in omega arith)
+      (let l : length (P .entries s′) ≡ length (P .entries s) = ap length i in omega arith))
 
   take-kept : (n : ℕ) (es : List ℕ) (h : List Event) (s s′ : S) (a : Answer) → Keeps n h s → P .entries s ≡ es
-    → a ≡ given (first es) → P .entries s′ ≡ drop 1 es → P .places s′ ≡ P .places s → P .agrees s′
-    → Keeps n (event Take a ∷ h) s′
+      → a ≡ given (first es) → P .entries s′ ≡ drop 1 es → P .places s′ ≡ P .places s → P .agrees s′
+      → Keeps n (event Take a ∷ h) s′
   take-kept n [] h s s′ a k q e i p g =
       let l : length (P .entries s) ≡ 0 = ap length q in
       let l′ : length (P .entries s′) ≡ 0 = ap length i in
       subst (λ x. Keeps n (event Take x ∷ h) s′) (sym e)
-      ( keeps-more n h (event Take Empty) s s′ k g p (held-is h (P .entries s) (k .long) ∙ l)
-        (λ c. let v : times c (P .entries s′) ≡ times c (P .entries s) = ap (times c) (i ∙ sym q) in omega arith)
-        (omega arith) )
+      (keeps-more n h (event Take Empty) s s′ k g p (held-is h (P .entries s) (k .long) ∙ l)
+      (λ c. let v : times c (P .entries s′) ≡ times c (P .entries s) = ap (times c) (i ∙ sym q) in omega arith)
+      (omega arith))
   take-kept n (b ∷ es) h s s′ a k q e i p g =
       let l : length (P .entries s) ≡ length (b ∷ es) = ap length q in
       let l′ : length (P .entries s′) ≡ length es = ap length i in
       subst (λ x. Keeps n (event Take x ∷ h) s′) (sym e)
-      ( keeps-more n h (event Take (Gave b)) s s′ k g p
-        (inside-is b h (P .entries s) (k .balance b) ∙ ap (is-in b) q ∙ (let t = eqb-self b in rw t refl))
-        (λ c. let v : times c (P .entries s′) ≡ times c es = ap (times c) i in
-              let w : times c (P .entries s) ≡ times c (b ∷ es) = ap (times c) q in
-              let x = times-cons c b es in
-              let u = times-cons c b [] in
-              omega arith)
-        (omega arith) )
+      (keeps-more n h (event Take (Gave b)) s s′ k g p
+      (inside-is b h (P .entries s) (k .balance b) ∙ ap (is-in b) q ∙ (let t = eqb-self b in rw t refl))
+      (λ c. let v : times c (P .entries s′) ≡ times c es = ap (times c) i in
+      let w : times c (P .entries s) ≡ times c (b ∷ es) = ap (times c) q in
+      let x = times-cons c b es in
+      let u = times-cons c b [] in
+      omega arith)
+      (omega arith))
 
   pub kept : (n : ℕ) (h : List Event) (s s′ : S) (o : Order) (a : Answer) → Keeps n h s → Obeys P s o a s′ → Keeps n (event o a ∷ h) s′
   kept n h s s′ (Put b m) a k (e, i, p, g, _) = put-kept n b m (accepts b (P .entries s) (P .places s)) h s s′ a k refl e i p (g (k .agree))
@@ -137,18 +135,13 @@ module _ {S : Type 0} (P : Ghosts S)
       let k = ran-kept start s h e g r in
       record { answers = k .answers; balance = k .balance; single = λ b. distinct-times b (P .entries s) (single s (k .agree)) }
 
--- where nothing is first there is no entry
-pub nothing-first : (es : List ℕ) → isSome (first es) ≡ false → es ≡ []
-nothing-first [] e = refl
-nothing-first (x ∷ es) e = absurd (false≢true (sym e))
-
 -- one order more of a list, and its answer
 pub ran-more : {S : Type 0} (P : Ghosts S) (start : S) (os : List Order) (i : ℕ) (d : Order) (ans ans′ : List Answer) (a : Answer) (s s′ : S)
-  → i < length os → length ans ≡ i → ans′ ≡ ans ++ a ∷ []
-  → Ran P start (history (take i os) ans) s → Obeys P s (getD os i d) a s′ → Ran P start (history (take (i + 1) os) ans′) s′
+    → i < length os → length ans ≡ i → ans′ ≡ ans ++ a ∷ []
+    → Ran P start (history (take i os) ans) s → Obeys P s (getD os i d) a s′ → Ran P start (history (take (i + 1) os) ans′) s′
 ran-more P start os i d ans ans′ a s s′ h n q r y =
     let l = length-take i os in
     let o = getD os i d in
     let w : history (take (i + 1) os) ans′ ≡ event o a ∷ history (take i os) ans =
-        ap (λ x. history x ans′) (take-more os i d h) ∙ ap (history (take i os ++ o ∷ [])) q ∙ history-push (take i os) ans o a (omega arith) in
+    ap (λ x. history x ans′) (take-more os i d h) ∙ ap (history (take i os ++ o ∷ [])) q ∙ history-push (take i os) ans o a (omega arith) in
     subst (λ x. Ran P start x s′) (sym w) (more o a r y)

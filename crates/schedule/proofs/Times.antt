@@ -35,7 +35,7 @@ distinct-times b (x ∷ xs) h =
     by-test (eqb x b) refl e i j h
   where
     by-test : (t : Bool) → eqb x b ≡ t → times b (x ∷ xs) ≡ cond (eqb x b) 1 0 + times b xs → (distinct xs ≡ true → times b xs ≤ 1) → is-in x xs ≡ ltb 0 (times x xs)
-      → (not (is-in x xs) && distinct xs) ≡ true → times b (x ∷ xs) ≤ 1
+        → (not (is-in x xs) && distinct xs) ≡ true → times b (x ∷ xs) ≤ 1
     by-test true t e i j h =
         let s : x ≡ b = grind (arith, tells) in
         let u : times x xs ≡ times b xs = ap (λ k. times k xs) s in

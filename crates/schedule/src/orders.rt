@@ -32,7 +32,10 @@ fn obey<S: Schedule>(policy: &mut S, order: Order) -> Answer
     ensures { λ r. ⌜ Obeys S·Schedule (now (policy .entry)) order r (now (policy .exit)) ⌝ }
 {
     match order {
-        Order::Put { bay, woken_while_running } => {
+        Order::Put {
+            bay,
+            woken_while_running,
+        } => {
             if policy.put(bay, woken_while_running) {
                 Answer::Accepted
             } else {
@@ -47,7 +50,11 @@ fn obey<S: Schedule>(policy: &mut S, order: Order) -> Answer
 }
 
 // Carries out a list of orders on a policy that has no entry, and answers each.
-pub fn serve<S: Schedule>(heap: Global, policy: &mut S, orders: &[Order]) -> Result<Vec<Answer>, Unserved>
+pub fn serve<S: Schedule>(
+    heap: Global,
+    policy: &mut S,
+    orders: &[Order],
+) -> Result<Vec<Answer>, Unserved>
     ensures { λ r. ⌜ Cases r (λ v. Serves S·Schedule (now (policy .entry)) (now (orders .entry)) (vec-items v) (now (policy .exit))) (λ e. Stays S·Schedule (now (policy .entry)) e (now (policy .exit))) ⌝ }
 {
     if policy.peek().is_some() {
