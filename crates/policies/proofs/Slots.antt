@@ -24,7 +24,7 @@ accepts-below (Some f) es n b h = grind (arith, tells)
 
 -- a bay that went below leaves the slot's bay a place there
 pub could-still : (slot : Option ℕ) (es es′ : List ℕ) (n b : ℕ) → accepts b (slotted slot es) n ≡ true → could-go slot es n ≡ true → Shuffled (b ∷ es) es′
-  → could-go slot es′ n ≡ true
+    → could-go slot es′ n ≡ true
 could-still None es es′ n b h k s = refl
 could-still (Some f) es es′ n b h k s =
     let l = length-shuffled (b ∷ es) es′ s in
@@ -42,8 +42,8 @@ went-none P slot below below′ e q =
     record { items = ap (P .entries) q ∙ ap (λ x. lowered P x below) (sym e); room = ap (P .places) q; agree = λ a. subst (P .agrees) (sym q) a }
 
 pub went-some : {X : Type 0} (P : Ghosts X) (slot : Option ℕ) (f : ℕ) (below x below′ : X) → slot ≡ Some f → below′ ≡ x
-  → P .entries x ≡ cond (accepts f (P .entries below) (P .places below)) (P .after below f false) (P .entries below)
-  → P .places x ≡ P .places below → (P .agrees below → P .agrees x) → Went P slot below below′
+    → P .entries x ≡ cond (accepts f (P .entries below) (P .places below)) (P .after below f false) (P .entries below)
+    → P .places x ≡ P .places below → (P .agrees below → P .agrees x) → Went P slot below below′
 went-some P slot f below x below′ e q i r a =
     record { items = ap (P .entries) q ∙ i ∙ ap (λ y. lowered P y below) (sym e); room = ap (P .places) q ∙ r; agree = λ b. subst (P .agrees) (sym q) (a b) }
 
@@ -66,7 +66,7 @@ module _ {X : Type 0} (P : Ghosts X) (keeps : (s : X) (b : ℕ) (m : Bool) → P
 
   -- then another bay can go there too
   pub went : (slot : Option ℕ) (below below′ : X) (b : ℕ) → Went P slot below below′ → accepts b (slotted slot (P .entries below)) (P .places below) ≡ true
-    → P .agrees below → could-go slot (P .entries below) (P .places below) ≡ true → accepts b (P .entries below′) (P .places below′) ≡ true
+      → P .agrees below → could-go slot (P .entries below) (P .places below) ≡ true → accepts b (P .entries below′) (P .places below′) ≡ true
   went slot below below′ b w h g k =
       let s = lowered-keeps slot below g k in
       let l = length-shuffled _ _ s in

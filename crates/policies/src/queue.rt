@@ -1,11 +1,20 @@
 // First in, first out.
 ghost use mathlib.Core.Path.{_≡_};
-ghost use mathlib.Core.List.{[], _∷_, _++_};
+ghost use mathlib.Core.List.{[]};
 ghost use Prim.Native.Nat.{min};
 ghost use Rattle.std.specs.Vec.{made};
-ghost use Rattle.policies.specs.Lines.{queued, queue-places};
+ghost use Rattle.std.specs.Of.Vec.{vec-items};
+ghost use Rattle.std.specs.Results.{Cases};
+ghost use Rattle.schedule.specs.History.{history};
+ghost use Rattle.schedule.specs.Orders.{Serves, Stays};
+ghost use Rattle.schedule.specs.Turns.{First-in-first-out};
+ghost use Rattle.policies.specs.Lines.{queued, queue-places, queue-after, queue-meaning};
 use super::line::Line;
+use schedule::Answer;
+use schedule::Order;
 use schedule::Schedule;
+use schedule::Unserved;
+use schedule::serve;
 use std::alloc::AllocError;
 use std::alloc::Global;
 
@@ -23,6 +32,14 @@ impl Queue {
         let line = Line::new(heap, places)?;
         Ok(Queue { line })
     }
+
+    // Carries out a list of orders on it while it is empty, and answers each.
+    pub fn serve(&mut self, heap: Global, orders: &[Order]) -> Result<Vec<Answer>, Unserved>
+        ensures each { λ r. ⌜ Cases r (λ v. Serves queue-meaning (now (self .entry)) (now (orders .entry)) (vec-items v) (now (self .exit))) (λ e. Stays queue-meaning (now (self .entry)) e (now (self .exit))) ⌝ }
+        ensures order { λ r. ⌜ made r (λ v. First-in-first-out (history (now (orders .entry)) (vec-items v)) (queued (now (self .exit)))) ⌝ }
+    {
+        serve(heap, self, orders)
+    }
 }
 
 pub impl Schedule for Queue as QueueSchedule {
@@ -30,7 +47,7 @@ pub impl Schedule for Queue as QueueSchedule {
 
     ghost places = { queue-places };
 
-    ghost after = { λ s b _. queued s ++ b ∷ [] };
+    ghost after = { queue-after };
 
     // what there is to agree on stands in the line's type
     ghost agrees = { λ _. Unit {0} };

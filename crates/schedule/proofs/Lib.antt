@@ -1,3 +1,4 @@
 pub mod Times
 pub mod Entries
 pub mod Once
+pub mod Turns

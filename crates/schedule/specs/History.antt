@@ -40,15 +40,18 @@ took-out (event Take Refused) = []
 took-out (event Take (Gave b)) = b ∷ []
 took-out (event Take Empty) = []
 
+-- what each event gives, one after another, the oldest first
+abbrev pub in-order : (Event → List ℕ) → List Event → List ℕ
+in-order give [] = []
+in-order give (e ∷ h) = in-order give h ++ give e
+
 -- the numbers put in, one after another
 abbrev pub ins : List Event → List ℕ
-ins [] = []
-ins (e ∷ h) = ins h ++ put-in e
+ins h = in-order put-in h
 
 -- the numbers taken out, one after another
 abbrev pub outs : List Event → List ℕ
-outs [] = []
-outs (e ∷ h) = outs h ++ took-out e
+outs h = in-order took-out h
 
 -- how often a number stands in a list
 abbrev pub times : ℕ → List ℕ → ℕ

@@ -15,10 +15,12 @@ returns g c =
     let e = c .put-accepted .ensures in
     let ok = accepts-below (s .slot) es n b (c .pre) in
     let es′ : P .entries (c .put-accepted .last .self) ≡ P .after (s .below) b true = e .items ∙ ap (λ t. cond t (P .after (s .below) b true) es) ok in
-    record
-    { agrees = λ a.
-        ( e .agrees (a .0)
-        , ap (could-go (s .slot) (P .entries (c .put-accepted .last .self))) (e .room) ∙ ap (λ x. could-go (s .slot) x n) es′
-          ∙ could-still (s .slot) es (P .after (s .below) b true) n b (c .pre) (a .1) (g .P·Schedule·met .keeps (s .below) b true (a .0)) )
-    ; items = ap (slotted (s .slot)) es′
-    ; room = e .room }
+    record {
+      agrees = λ a. (
+        e .agrees (a .0),
+        ap (could-go (s .slot) (P .entries (c .put-accepted .last .self))) (e .room) ∙ ap (λ x. could-go (s .slot) x n) es′
+            ∙ could-still (s .slot) es (P .after (s .below) b true) n b (c .pre) (a .1) (g .P·Schedule·met .keeps (s .below) b true (a .0)),
+      );
+      items = ap (slotted (s .slot)) es′;
+      room = e .room;
+    }
