@@ -1,19 +1,15 @@
--- A line in two parts; and what a Queue and a Stack do with a list of orders.
+-- A line in two parts; and what a Queue and a Stack do with a list of requests.
 use Prim.Native.Nat.{ℕ}
 use mathlib.Core.Path.{_≡_, refl, sym, _∙_, ap}
 use mathlib.Core.Bool.{Bool, true, false, _||_}
 use mathlib.Core.List.{List, _++_}
 use native.Mathlib.Omega.{arith}
 use Rattle.std.proofs.shelf.Ways.{tells}
-use Rattle.std.specs.Results.{Cases}
-use Rattle.std.specs.Vec.{made}
-use Rattle.std.specs.declared.result.Result.{Result}
-use Rattle.std.specs.declared.result.Result.the-variants.{Ok, Err}
-use Rattle.schedule.specs.declared.orders.Order.{Order}
-use Rattle.schedule.specs.declared.orders.Answer.{Answer}
+use Rattle.schedule.specs.declared.requests.Request.{Request}
+use Rattle.schedule.specs.declared.requests.Answer.{Answer}
 use Rattle.schedule.specs.Entries.{is-in}
 use Rattle.schedule.specs.History.{history}
-use Rattle.schedule.specs.Orders.{Serves}
+use Rattle.schedule.specs.Requests.{Serves}
 use Rattle.schedule.specs.Turns.{First-in-first-out, Last-in-first-out}
 use Rattle.schedule.proofs.Entries.{is-in-append}
 use Rattle.schedule.proofs.Turns.{fifo, lifo}
@@ -28,13 +24,8 @@ in-parts b front back line p e f =
     let w : is-in b line ≡ (is-in b front || is-in b back) = ap (is-in b) (sym e) ∙ is-in-append b front back in
     (λ t. grind (arith, tells), λ t. grind (arith, tells))
 
--- what holds of a list that was served holds where the answer is Ok
-pub where-served : {X Y : Type 0} (r : Result X Y) (P : X → Type 0) (Q : Y → Type 0) (L : X → Type 0) → Cases r P Q → ((x : X) → P x → L x) → made r L
-where-served (Ok x) P Q L h f = f x h
-where-served (Err y) P Q L h f = tt
+pub queue-fifo : (q q′ : Queue) (requests : List Request) (answers : List Answer) → Serves queue-meaning q requests answers q′ → First-in-first-out (history requests answers) (queued q′)
+queue-fifo q q′ requests answers s = fifo queue-meaning (λ _ _ _. refl) q q′ (history requests answers) (s .from-empty) (s .in-turn)
 
-pub queue-fifo : (q q′ : Queue) (orders : List Order) (answers : List Answer) → Serves queue-meaning q orders answers q′ → First-in-first-out (history orders answers) (queued q′)
-queue-fifo q q′ orders answers s = fifo queue-meaning (λ _ _ _. refl) q q′ (history orders answers) (s .from-empty) (s .in-turn)
-
-pub stack-lifo : (t t′ : Stack) (orders : List Order) (answers : List Answer) → Serves stack-meaning t orders answers t′ → Last-in-first-out (history orders answers)
-stack-lifo t t′ orders answers s = lifo stack-meaning (λ _ _ _. refl) t t′ (history orders answers) (s .from-empty) (s .in-turn)
+pub stack-lifo : (t t′ : Stack) (requests : List Request) (answers : List Answer) → Serves stack-meaning t requests answers t′ → Last-in-first-out (history requests answers)
+stack-lifo t t′ requests answers s = lifo stack-meaning (λ _ _ _. refl) t t′ (history requests answers) (s .from-empty) (s .in-turn)

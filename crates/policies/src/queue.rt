@@ -2,16 +2,18 @@
 ghost use mathlib.Core.Path.{_≡_};
 ghost use mathlib.Core.List.{[]};
 ghost use Prim.Native.Nat.{min};
+ghost use lib.ListN.{length};
 ghost use Rattle.std.specs.Vec.{made};
-ghost use Rattle.std.specs.Of.Vec.{vec-items};
+ghost use Rattle.std.specs.declared.option.Option.the-variants.{Some, None};
+ghost use Rattle.std.specs.Of.Vec.{vec-items, vec-cap};
 ghost use Rattle.std.specs.Results.{Cases};
 ghost use Rattle.schedule.specs.History.{history};
-ghost use Rattle.schedule.specs.Orders.{Serves, Stays};
+ghost use Rattle.schedule.specs.Requests.{Serves, refusal};
 ghost use Rattle.schedule.specs.Turns.{First-in-first-out};
 ghost use Rattle.policies.specs.Lines.{queued, queue-places, queue-after, queue-meaning};
 use super::line::Line;
 use schedule::Answer;
-use schedule::Order;
+use schedule::Request;
 use schedule::Schedule;
 use schedule::Unserved;
 use schedule::serve;
@@ -33,12 +35,13 @@ impl Queue {
         Ok(Queue { line })
     }
 
-    // Carries out a list of orders on it while it is empty, and answers each.
-    pub fn serve(&mut self, heap: Global, orders: &[Order]) -> Result<Vec<Answer>, Unserved>
-        ensures each { λ r. ⌜ Cases r (λ v. Serves queue-meaning (now (self .entry)) (now (orders .entry)) (vec-items v) (now (self .exit))) (λ e. Stays queue-meaning (now (self .entry)) e (now (self .exit))) ⌝ }
-        ensures order { λ r. ⌜ made r (λ v. First-in-first-out (history (now (orders .entry)) (vec-items v)) (queued (now (self .exit)))) ⌝ }
+    // Carries out a list of requests on it while it is empty, as `schedule::serve` does.
+    pub fn serve(&mut self, requests: &[Request], answers: &mut Vec<Answer>) -> Result<(), Unserved>
+        ensures served { λ r. ⌜ made r (λ _. Serves queue-meaning (now (self .entry)) (now (requests .entry)) (vec-items (now (answers .exit))) (now (self .exit))) ⌝ }
+        ensures refused { λ r. ⌜ Cases r (λ _. refusal (queued (now (self .entry))) (length (now (requests .entry))) (vec-cap (now (answers .entry))) ≡ None) (λ why. (refusal (queued (now (self .entry))) (length (now (requests .entry))) (vec-cap (now (answers .entry))) ≡ Some why) × (now (self .exit) ≡ now (self .entry)) × (now (answers .exit) ≡ now (answers .entry))) ⌝ }
+        ensures order { λ r. ⌜ made r (λ _. First-in-first-out (history (now (requests .entry)) (vec-items (now (answers .exit)))) (queued (now (self .exit)))) ⌝ }
     {
-        serve(heap, self, orders)
+        serve(self, requests, answers)
     }
 }
 

@@ -2,16 +2,18 @@
 ghost use mathlib.Core.Path.{_≡_};
 ghost use mathlib.Core.List.{[]};
 ghost use Prim.Native.Nat.{min};
+ghost use lib.ListN.{length};
 ghost use Rattle.std.specs.Vec.{made};
-ghost use Rattle.std.specs.Of.Vec.{vec-items};
+ghost use Rattle.std.specs.declared.option.Option.the-variants.{Some, None};
+ghost use Rattle.std.specs.Of.Vec.{vec-items, vec-cap};
 ghost use Rattle.std.specs.Results.{Cases};
 ghost use Rattle.schedule.specs.History.{history};
-ghost use Rattle.schedule.specs.Orders.{Serves, Stays};
+ghost use Rattle.schedule.specs.Requests.{Serves, refusal};
 ghost use Rattle.schedule.specs.Turns.{Last-in-first-out};
 ghost use Rattle.policies.specs.Lines.{stacked, stack-places, stack-after, stack-meaning};
 use super::line::Line;
 use schedule::Answer;
-use schedule::Order;
+use schedule::Request;
 use schedule::Schedule;
 use schedule::Unserved;
 use schedule::serve;
@@ -33,12 +35,13 @@ impl Stack {
         Ok(Stack { line })
     }
 
-    // Carries out a list of orders on it while it is empty, and answers each.
-    pub fn serve(&mut self, heap: Global, orders: &[Order]) -> Result<Vec<Answer>, Unserved>
-        ensures each { λ r. ⌜ Cases r (λ v. Serves stack-meaning (now (self .entry)) (now (orders .entry)) (vec-items v) (now (self .exit))) (λ e. Stays stack-meaning (now (self .entry)) e (now (self .exit))) ⌝ }
-        ensures order { λ r. ⌜ made r (λ v. Last-in-first-out (history (now (orders .entry)) (vec-items v))) ⌝ }
+    // Carries out a list of requests on it while it is empty, as `schedule::serve` does.
+    pub fn serve(&mut self, requests: &[Request], answers: &mut Vec<Answer>) -> Result<(), Unserved>
+        ensures served { λ r. ⌜ made r (λ _. Serves stack-meaning (now (self .entry)) (now (requests .entry)) (vec-items (now (answers .exit))) (now (self .exit))) ⌝ }
+        ensures refused { λ r. ⌜ Cases r (λ _. refusal (stacked (now (self .entry))) (length (now (requests .entry))) (vec-cap (now (answers .entry))) ≡ None) (λ why. (refusal (stacked (now (self .entry))) (length (now (requests .entry))) (vec-cap (now (answers .entry))) ≡ Some why) × (now (self .exit) ≡ now (self .entry)) × (now (answers .exit) ≡ now (answers .entry))) ⌝ }
+        ensures order { λ r. ⌜ made r (λ _. Last-in-first-out (history (now (requests .entry)) (vec-items (now (answers .exit))))) ⌝ }
     {
-        serve(heap, self, orders)
+        serve(self, requests, answers)
     }
 }
 

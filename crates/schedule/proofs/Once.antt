@@ -1,4 +1,4 @@
--- What goes in comes out once: by induction over the orders.
+-- What goes in comes out once: by induction over the requests.
 use Prim.Native.Nat.{ℕ, _+_, _-_, _≤_, _<_}
 use mathlib.Core.Path.{_≡_, refl, sym, _∙_, ap, subst}
 use mathlib.Core.Bool.{Bool, true, false, cond, not, _&&_, _||_}
@@ -10,24 +10,26 @@ use Rattle.std.proofs.shelf.Ways.{tells}
 use Rattle.std.proofs.shelf.Lists.{reverse-append, take-more, length-take}
 use Rattle.std.proofs.shelf.Sorted.{length-shuffled}
 use Rattle.std.specs.Slices.{Shuffled}
+use Rattle.std.specs.Options.{isSome}
+use Rattle.std.specs.declared.option.Option.the-variants.{None}
 use Rattle.schedule.specs.declared.Schedule.{Ghosts}
-use Rattle.schedule.specs.declared.orders.Order.{Order}
-use Rattle.schedule.specs.declared.orders.Order.the-variants.{Put, Take}
-use Rattle.schedule.specs.declared.orders.Answer.{Answer}
-use Rattle.schedule.specs.declared.orders.Answer.the-variants.{Accepted, Refused, Gave, Empty}
+use Rattle.schedule.specs.declared.requests.Request.{Request}
+use Rattle.schedule.specs.declared.requests.Request.the-variants.{Put, Take}
+use Rattle.schedule.specs.declared.requests.Answer.{Answer}
+use Rattle.schedule.specs.declared.requests.Answer.the-variants.{Accepted, Refused, Gave, Empty}
 use Rattle.schedule.specs.Entries.{is-in, distinct, first, accepts}
 use Rattle.schedule.specs.History.{Event, event, beside, history, put-in, took-out, ins, outs, times, inside, held, Each}
-use Rattle.schedule.specs.Orders.{given, Obeys, Ran, none, more, Ruled, Once}
+use Rattle.schedule.specs.Requests.{given, Obeys, Ran, none, more, Ruled, Once, refusal}
 use Rattle.schedule.proofs.Times.{times-cons, times-append, times-shuffled, is-in-times, distinct-times}
 
--- one order more at the end of a list is one event more at the head of its history
-beside-push : (os : List Order) (ans : List Answer) (o : Order) (a : Answer) → length ans ≡ length os → beside (os ++ o ∷ []) (ans ++ a ∷ []) ≡ beside os ans ++ event o a ∷ []
+-- one request more at the end of a list is one event more at the head of its history
+beside-push : (os : List Request) (ans : List Answer) (o : Request) (a : Answer) → length ans ≡ length os → beside (os ++ o ∷ []) (ans ++ a ∷ []) ≡ beside os ans ++ event o a ∷ []
 beside-push [] [] o a e = refl
 beside-push [] (b ∷ ans) o a e = absurd (omega arith)
 beside-push (p ∷ os) [] o a e = absurd (omega arith)
 beside-push (p ∷ os) (b ∷ ans) o a e = ap (λ r. event p b ∷ r) (beside-push os ans o a (omega arith))
 
-pub history-push : (os : List Order) (ans : List Answer) (o : Order) (a : Answer) → length ans ≡ length os → history (os ++ o ∷ []) (ans ++ a ∷ []) ≡ event o a ∷ history os ans
+pub history-push : (os : List Request) (ans : List Answer) (o : Request) (a : Answer) → length ans ≡ length os → history (os ++ o ∷ []) (ans ++ a ∷ []) ≡ event o a ∷ history os ans
 history-push os ans o a e = ap reverse (beside-push os ans o a e) ∙ reverse-append (beside os ans) (event o a ∷ [])
 
 eqb-self : (b : ℕ) → eqb b b ≡ true
@@ -122,7 +124,7 @@ module _ {S : Type 0} (P : Ghosts S)
       omega arith)
       (omega arith))
 
-  pub kept : (n : ℕ) (h : List Event) (s s′ : S) (o : Order) (a : Answer) → Keeps n h s → Obeys P s o a s′ → Keeps n (event o a ∷ h) s′
+  pub kept : (n : ℕ) (h : List Event) (s s′ : S) (o : Request) (a : Answer) → Keeps n h s → Obeys P s o a s′ → Keeps n (event o a ∷ h) s′
   kept n h s s′ (Put b m) a k (e, i, p, g, _) = put-kept n b m (accepts b (P .entries s) (P .places s)) h s s′ a k refl e i p (g (k .agree))
   kept n h s s′ Take a k (e, i, p, g) = take-kept n (P .entries s) h s s′ a k refl e i p (g (k .agree))
 
@@ -135,8 +137,8 @@ module _ {S : Type 0} (P : Ghosts S)
       let k = ran-kept start s h e g r in
       record { answers = k .answers; balance = k .balance; single = λ b. distinct-times b (P .entries s) (single s (k .agree)) }
 
--- one order more of a list, and its answer
-pub ran-more : {S : Type 0} (P : Ghosts S) (start : S) (os : List Order) (i : ℕ) (d : Order) (ans ans′ : List Answer) (a : Answer) (s s′ : S)
+-- one request more of a list, and its answer
+pub ran-more : {S : Type 0} (P : Ghosts S) (start : S) (os : List Request) (i : ℕ) (d : Request) (ans ans′ : List Answer) (a : Answer) (s s′ : S)
     → i < length os → length ans ≡ i → ans′ ≡ ans ++ a ∷ []
     → Ran P start (history (take i os) ans) s → Obeys P s (getD os i d) a s′ → Ran P start (history (take (i + 1) os) ans′) s′
 ran-more P start os i d ans ans′ a s s′ h n q r y =
@@ -145,3 +147,6 @@ ran-more P start os i d ans ans′ a s s′ h n q r y =
     let w : history (take (i + 1) os) ans′ ≡ event o a ∷ history (take i os) ans =
     ap (λ x. history x ans′) (take-more os i d h) ∙ ap (history (take i os ++ o ∷ [])) q ∙ history-push (take i os) ans o a (omega arith) in
     subst (λ x. Ran P start x s′) (sym w) (more o a r y)
+
+pub unrefused : (es : List ℕ) (n room : ℕ) → isSome (first es) ≡ false → n ≤ room → refusal es n room ≡ None
+unrefused es n room e h = rw e (let t : ltb room n ≡ false = grind (arith, tells) in rw t refl)

@@ -6,13 +6,13 @@ use mathlib.Core.List.{List, [], _∷_, _++_, append-assoc, append-nil}
 use native.Mathlib.Omega.{arith}
 use lib.ListN.{drop}
 use Rattle.schedule.specs.declared.Schedule.{Ghosts}
-use Rattle.schedule.specs.declared.orders.Order.{Order}
-use Rattle.schedule.specs.declared.orders.Order.the-variants.{Put, Take}
-use Rattle.schedule.specs.declared.orders.Answer.{Answer}
-use Rattle.schedule.specs.declared.orders.Answer.the-variants.{Accepted, Refused, Gave, Empty}
+use Rattle.schedule.specs.declared.requests.Request.{Request}
+use Rattle.schedule.specs.declared.requests.Request.the-variants.{Put, Take}
+use Rattle.schedule.specs.declared.requests.Answer.{Answer}
+use Rattle.schedule.specs.declared.requests.Answer.the-variants.{Accepted, Refused, Gave, Empty}
 use Rattle.schedule.specs.Entries.{first, accepts}
 use Rattle.schedule.specs.History.{Event, event, put-in, took-out, in-order, ins, outs, times, Each}
-use Rattle.schedule.specs.Orders.{given, Obeys, Ran, none, more}
+use Rattle.schedule.specs.Requests.{given, Obeys, Ran, none, more}
 use Rattle.schedule.specs.Turns.{First-in-first-out, Settled, Is-last, Gives-last, Last-in-first-out}
 use Rattle.schedule.proofs.Times.{times-append}
 
@@ -36,7 +36,7 @@ module _ {S : Type 0} (P : Ghosts S) (last : (s : S) (b : ℕ) (m : Bool) → P 
       subst (λ x. First-in-first-out (event Take x ∷ h) (P .entries s′)) (sym e)
       (append-nil (ins h) ∙ k ∙ sym (append-assoc (outs h) (b ∷ []) es) ∙ ap (λ x. (outs h ++ b ∷ []) ++ x) (sym i))
 
-  fifo-more : (h : List Event) (s s′ : S) (o : Order) (a : Answer) → First-in-first-out h (P .entries s) → Obeys P s o a s′ → First-in-first-out (event o a ∷ h) (P .entries s′)
+  fifo-more : (h : List Event) (s s′ : S) (o : Request) (a : Answer) → First-in-first-out h (P .entries s) → Obeys P s o a s′ → First-in-first-out (event o a ∷ h) (P .entries s′)
   fifo-more h s s′ (Put b m) a k y = put-last b m (accepts b (P .entries s) (P .places s)) h s s′ a k (y .0) (y .1)
   fifo-more h s s′ Take a k y = take-first (P .entries s) h s′ a k (y .0) (y .1)
 
@@ -121,7 +121,7 @@ module _ {S : Type 0} (P : Ghosts S) (top : (s : S) (b : ℕ) (m : Bool) → P .
   take-last (b ∷ es) h s′ a k p e i =
       subst (λ x. Lifo (event Take x ∷ h) s′) (sym e) ((p .0, k), subst (λ es. Piled es (event Take (Gave b) ∷ h)) (sym i) (taken b es h p))
 
-  lifo-more : (h : List Event) (s s′ : S) (o : Order) (a : Answer) → Lifo h s → Obeys P s o a s′ → Lifo (event o a ∷ h) s′
+  lifo-more : (h : List Event) (s s′ : S) (o : Request) (a : Answer) → Lifo h s → Obeys P s o a s′ → Lifo (event o a ∷ h) s′
   lifo-more h s s′ (Put b m) a k y = put-first b m (accepts b (P .entries s) (P .places s)) h s s′ a k (y .0) (y .1)
   lifo-more h s s′ Take a k y = take-last (P .entries s) h s′ a (k .0) (k .1) (y .0) (y .1)
 

@@ -1,4 +1,4 @@
--- What happened to a policy: the orders it was given, each with its answer, the newest first.
+-- What happened to a policy: the requests it was given, each with its answer, the newest first.
 use Prim.Native.Nat.{ℕ, _-_}
 use mathlib.Core.Path.{_≡_}
 use mathlib.Core.Bool.{Bool, true, false, cond, not, _&&_}
@@ -6,23 +6,23 @@ use mathlib.Core.List.{List, [], _∷_, _++_, reverse}
 use lib.Dec.{eqb, ltb}
 use lib.ListN.{length}
 use Rattle.std.specs.shelf.Lists.{countBy}
-use Rattle.schedule.specs.declared.orders.Order.{Order}
-use Rattle.schedule.specs.declared.orders.Order.the-variants.{Put, Take}
-use Rattle.schedule.specs.declared.orders.Answer.{Answer}
-use Rattle.schedule.specs.declared.orders.Answer.the-variants.{Accepted, Refused, Gave, Empty}
+use Rattle.schedule.specs.declared.requests.Request.{Request}
+use Rattle.schedule.specs.declared.requests.Request.the-variants.{Put, Take}
+use Rattle.schedule.specs.declared.requests.Answer.{Answer}
+use Rattle.schedule.specs.declared.requests.Answer.the-variants.{Accepted, Refused, Gave, Empty}
 
 pub data Event : Type 0 where
-  event : Order → Answer → Event
+  event : Request → Answer → Event
 
--- each order beside its answer
-abbrev pub beside : List Order → List Answer → List Event
+-- each request beside its answer
+abbrev pub beside : List Request → List Answer → List Event
 beside [] answers = []
-beside (o ∷ orders) [] = []
-beside (o ∷ orders) (a ∷ answers) = event o a ∷ beside orders answers
+beside (o ∷ requests) [] = []
+beside (o ∷ requests) (a ∷ answers) = event o a ∷ beside requests answers
 
--- the history of a list of orders, each with its answer
-abbrev pub history : List Order → List Answer → List Event
-history orders answers = reverse (beside orders answers)
+-- the history of a list of requests, each with its answer
+abbrev pub history : List Request → List Answer → List Event
+history requests answers = reverse (beside requests answers)
 
 -- the number that an event put in: that of a put that was accepted
 abbrev pub put-in : Event → List ℕ

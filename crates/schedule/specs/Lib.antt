@@ -1,4 +1,4 @@
 pub mod Entries
 pub mod History
-pub mod Orders
+pub mod Requests
 pub mod Turns

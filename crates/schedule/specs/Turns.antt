@@ -3,8 +3,8 @@ use Prim.Native.Nat.{ℕ}
 use mathlib.Core.Path.{_≡_}
 use mathlib.Core.Bool.{Bool}
 use mathlib.Core.List.{List, _∷_, _++_}
-use Rattle.schedule.specs.declared.orders.Order.the-variants.{Put, Take}
-use Rattle.schedule.specs.declared.orders.Answer.the-variants.{Accepted, Refused, Gave, Empty}
+use Rattle.schedule.specs.declared.requests.Request.the-variants.{Put, Take}
+use Rattle.schedule.specs.declared.requests.Answer.the-variants.{Accepted, Refused, Gave, Empty}
 use Rattle.schedule.specs.History.{Event, event, ins, outs, times, Each}
 
 -- First in, first out: the numbers put in, one after another, are those taken out and then those left.

@@ -7,12 +7,12 @@ ghost use lib.ListN.{length, drop};
 ghost use Rattle.std.specs.Slices.{Shuffled};
 ghost use Rattle.schedule.specs.Entries.{is-in, distinct, below-64, first, accepts, told};
 
-pub mod orders;
+pub mod requests;
 
-pub use orders::Answer;
-pub use orders::Order;
-pub use orders::Unserved;
-pub use orders::serve;
+pub use requests::Answer;
+pub use requests::Request;
+pub use requests::Unserved;
+pub use requests::serve;
 
 // A policy over bay numbers below 64, of which each waits at most once.
 pub trait Schedule {

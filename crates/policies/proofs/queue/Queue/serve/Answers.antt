@@ -1,9 +1,13 @@
 use Rattle.std.specs.Of.Vec.{vec-items}
-use Rattle.policies.proofs.Lines.{where-served, queue-fifo}
+use Rattle.std.proofs.shelf.Results.{made-weaker}
+use Rattle.policies.proofs.Lines.{queue-fifo}
 use Rattle.policies.proofs.queue.Queue.serve.Needs as need
 
 pub returns : need.returns
 returns c =
-    record
-    { each = c .serve .ensures
-    ; order = where-served (c .serve .result) _ _ _ (c .serve .ensures) (λ v s. queue-fifo (c .args .self .now) (c .serve .last .policy) (c .args .orders .now) (vec-items v) s) }
+    let e = c .serve .ensures in
+    record {
+      served = e .served;
+      refused = e .refused;
+      order = made-weaker (c .serve .result) _ _ (λ _ s. queue-fifo (c .args .self .now) (c .serve .last .policy) (c .args .requests .now) (vec-items (c .serve .last .answers)) s) (e .served);
+    }

@@ -1,4 +1,4 @@
--- What a list of orders does, for every policy. P gives a policy's meaning: its entries, places, what a put leaves, and agreement.
+-- What a list of requests does, for every policy. P gives a policy's meaning: its entries, places, what a put leaves, and agreement.
 use Prim.Native.Nat.{ℕ, _+_, _≤_}
 use mathlib.Core.Path.{_≡_}
 use mathlib.Core.Bool.{Bool, true, false, cond, not, _&&_}
@@ -9,12 +9,12 @@ use Rattle.std.specs.Options.{isSome}
 use Rattle.std.specs.declared.option.Option.{Option}
 use Rattle.std.specs.declared.option.Option.the-variants.{Some, None}
 use Rattle.schedule.specs.declared.Schedule.{Ghosts}
-use Rattle.schedule.specs.declared.orders.Order.{Order}
-use Rattle.schedule.specs.declared.orders.Order.the-variants.{Put, Take}
-use Rattle.schedule.specs.declared.orders.Answer.{Answer}
-use Rattle.schedule.specs.declared.orders.Answer.the-variants.{Accepted, Refused, Gave, Empty}
-use Rattle.schedule.specs.declared.orders.Unserved.{Unserved}
-use Rattle.schedule.specs.declared.orders.Unserved.the-variants.{NotEmpty, NoMemory}
+use Rattle.schedule.specs.declared.requests.Request.{Request}
+use Rattle.schedule.specs.declared.requests.Request.the-variants.{Put, Take}
+use Rattle.schedule.specs.declared.requests.Answer.{Answer}
+use Rattle.schedule.specs.declared.requests.Answer.the-variants.{Accepted, Refused, Gave, Empty}
+use Rattle.schedule.specs.declared.requests.Unserved.{Unserved}
+use Rattle.schedule.specs.declared.requests.Unserved.the-variants.{NotEmpty, NoRoom}
 use Rattle.schedule.specs.Entries.{is-in, first, accepts}
 use Rattle.schedule.specs.History.{Event, event, history, ins, outs, times, inside, held, Each}
 
@@ -23,8 +23,8 @@ abbrev pub given : Option ℕ → Answer
 given None = Empty
 given (Some b) = Gave b
 
--- One order: the policy was s, gave the answer, and is s′.
-abbrev pub Obeys : {S : Type 0} → Ghosts S → S → Order → Answer → S → Type 0
+-- One request: the policy was s, gave the answer, and is s′.
+abbrev pub Obeys : {S : Type 0} → Ghosts S → S → Request → Answer → S → Type 0
 Obeys P s (Put b m) a s′ =
     (a ≡ cond (accepts b (P .entries s) (P .places s)) Accepted Refused)
     × (P .entries s′ ≡ cond (accepts b (P .entries s) (P .places s)) (P .after s b m) (P .entries s))
@@ -37,10 +37,10 @@ Obeys P s Take a s′ =
     × (P .places s′ ≡ P .places s)
     × (P .agrees s → P .agrees s′)
 
--- A list of orders: each finds the policy as the one before left it.
+-- A list of requests: each finds the policy as the one before left it.
 pub data Ran {S : Type 0} (P : Ghosts S) (start : S) : List Event → S → Type 0 where
   none : Ran P start [] start
-  more : {h : List Event} {s s′ : S} (o : Order) (a : Answer) → Ran P start h s → Obeys P s o a s′ → Ran P start (event o a ∷ h) s′
+  more : {h : List Event} {s s′ : S} (o : Request) (a : Answer) → Ran P start h s → Obeys P s o a s′ → Ran P start (event o a ∷ h) s′
 
 -- Each answer follows from the history before it: a put is accepted exactly if the number is below 64 and not inside,
 -- and fewer numbers are inside than there are places; a take gives a number that is inside, and is Empty only if none is.
@@ -60,13 +60,13 @@ pub record Once (places : ℕ) (h : List Event) (left : List ℕ) : Type 0 where
   -- and what is left is left once
   pub single : (b : ℕ) → times b left ≤ 1
 
--- The orders were carried out on the policy s, which had no entry, and left s′.
-pub record Serves {S : Type 0} (P : Ghosts S) (s : S) (orders : List Order) (answers : List Answer) (s′ : S) : Type 0 where
+-- The requests were carried out on the policy s, which had no entry, and left s′.
+pub record Serves {S : Type 0} (P : Ghosts S) (s : S) (requests : List Request) (answers : List Answer) (s′ : S) : Type 0 where
   pub from-empty : P .entries s ≡ []
-  pub each-answered : length answers ≡ length orders
-  pub in-turn : Ran P s (history orders answers) s′
-  pub once : Once (P .places s) (history orders answers) (P .entries s′)
+  pub each-answered : length answers ≡ length requests
+  pub in-turn : Ran P s (history requests answers) s′
+  pub once : Once (P .places s) (history requests answers) (P .entries s′)
 
--- No order was carried out: the policy had an entry, or else there was no memory for the answers.
-abbrev pub Stays : {S : Type 0} → Ghosts S → S → Unserved → S → Type 0
-Stays P s why s′ = (why ≡ cond (isSome (first (P .entries s))) NotEmpty NoMemory) × (s′ ≡ s)
+-- Why a list of n requests is not carried out, if it is not: the policy has an entry, or else there is no room for the answers.
+abbrev pub refusal : List ℕ → ℕ → ℕ → Option Unserved
+refusal entries n room = cond (isSome (first entries)) (Some NotEmpty) (cond (ltb room n) (Some NoRoom) None)
