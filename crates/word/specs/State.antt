@@ -2,6 +2,7 @@
 use Prim.Native.Nat.{ℕ, _-_, _/_, _^_, _<_}
 use mathlib.Core.Path.{_≡_}
 use mathlib.Core.Bool.{Bool, not, _&&_, _||_}
+use mathlib.Core.List.{List, [], _∷_}
 use lib.Bits.{bitAnd, bitOr}
 use lib.Dec.{ltb}
 
@@ -29,6 +30,9 @@ registering = 64
 
 abbrev pub notifying : ℕ
 notifying = 128
+
+abbrev pub all-flags : List ℕ
+all-flags = scheduled ∷ running ∷ completed ∷ closed ∷ task ∷ awaiter ∷ registering ∷ notifying ∷ []
 
 -- one reference
 abbrev pub reference : ℕ

@@ -1,6 +1,6 @@
 // The flags of a state word, in its low byte, and the number of references above them.
 ghost use mathlib.Core.Path.{_≡_};
-ghost use Rattle.word.specs.State.{has, count, is-open, with-flags, without-flags, Sets-only, Clears-only};
+ghost use Rattle.word.specs.State.{all-flags, has, count, is-open, with-flags, without-flags, Sets-only, Clears-only};
 
 // Set if the task is scheduled for running: its Runnable exists and is not being polled,
 // or it was woken while it is polled.
@@ -29,6 +29,22 @@ pub const NOTIFYING: u32 = 1 << 7;
 
 // One reference, a Runnable's or a Waker's.
 pub const REFERENCE: u32 = 1 << 8;
+
+// The flags, the lowest bit first.
+pub fn flags() -> [u32; 8]
+    ensures { λ r. ⌜ r ≡ all-flags ⌝ }
+{
+    [
+        SCHEDULED,
+        RUNNING,
+        COMPLETED,
+        CLOSED,
+        TASK,
+        AWAITER,
+        REGISTERING,
+        NOTIFYING,
+    ]
+}
 
 // Whether one of `flags` is set.
 pub fn has(state: u32, flags: u32) -> bool

@@ -1,0 +1,26 @@
+use mathlib.Core.Path.{_≡_, sym, _∙_, ap, subst}
+use mathlib.Core.Bool.{true, cond}
+use Rattle.schedule.specs.Entries.{accepts}
+use Rattle.layers.specs.Slots.{slotted, could-go}
+use Rattle.layers.proofs.Slots.{accepts-below, could-still}
+use Rattle.layers.proofs.slot.Slot.put_below.Needs as need
+
+pub returns : need.returns
+returns g c =
+    let P = g .P·Schedule in
+    let s = c .args .self .now in
+    let b = c .args .bay in
+    let es = P .entries (s .below) in
+    let n = P .places (s .below) in
+    let e = c .put-accepted .ensures in
+    let ok = accepts-below (s .slot) es n b (c .pre) in
+    let es′ : P .entries (c .put-accepted .last .self) ≡ P .after (s .below) b true = e .items ∙ ap (λ t. cond t (P .after (s .below) b true) es) ok in
+    record {
+      agrees = λ a. (
+        e .agrees (a .0),
+        ap (could-go (s .slot) (P .entries (c .put-accepted .last .self))) (e .room) ∙ ap (λ x. could-go (s .slot) x n) es′
+            ∙ could-still (s .slot) es (P .after (s .below) b true) n b (c .pre) (a .1) (g .P·Schedule·met .keeps (s .below) b true (a .0)),
+      );
+      items = ap (slotted (s .slot)) es′;
+      room = e .room;
+    }
