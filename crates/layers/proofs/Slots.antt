@@ -17,6 +17,9 @@ use Rattle.schedule.proofs.Entries.{is-in-shuffled}
 use Rattle.layers.specs.declared.slot.Slot.{Slot}
 use Rattle.layers.specs.Slots.{slotted, slot-entries, slot-places, could-go, slot-agrees, lowered, slot-after}
 
+pub taken-way : (t : Bool) (xs ys zs : List ℕ) → t ≡ true → xs ≡ cond t ys zs → xs ≡ ys
+taken-way t xs ys zs h e = e ∙ ap (λ b. cond b ys zs) h
+
 -- what the slot's policy accepts, the policy below accepts
 pub accepts-below : (slot : Option ℕ) (es : List ℕ) (n b : ℕ) → accepts b (slotted slot es) n ≡ true → accepts b es n ≡ true
 accepts-below None es n b h = h
@@ -30,22 +33,6 @@ could-still (Some f) es es′ n b h k s =
     let l = length-shuffled (b ∷ es) es′ s in
     let i = is-in-shuffled f (b ∷ es) es′ s in
     grind (arith, tells)
-
--- the slot's bay, if any, went below: the policy there was `below` and is `below′`
-pub record Went {X : Type 0} (P : Ghosts X) (slot : Option ℕ) (below below′ : X) : Type 0 where
-  pub items : P .entries below′ ≡ lowered P slot below
-  pub room : P .places below′ ≡ P .places below
-  pub agree : P .agrees below → P .agrees below′
-
-pub went-none : {X : Type 0} (P : Ghosts X) (slot : Option ℕ) (below below′ : X) → slot ≡ None → below′ ≡ below → Went P slot below below′
-went-none P slot below below′ e q =
-    record { items = ap (P .entries) q ∙ ap (λ x. lowered P x below) (sym e); room = ap (P .places) q; agree = λ a. subst (P .agrees) (sym q) a }
-
-pub went-some : {X : Type 0} (P : Ghosts X) (slot : Option ℕ) (f : ℕ) (below x below′ : X) → slot ≡ Some f → below′ ≡ x
-    → P .entries x ≡ cond (accepts f (P .entries below) (P .places below)) (P .after below f false) (P .entries below)
-    → P .places x ≡ P .places below → (P .agrees below → P .agrees x) → Went P slot below below′
-went-some P slot f below x below′ e q i r a =
-    record { items = ap (P .entries) q ∙ i ∙ ap (λ y. lowered P y below) (sym e); room = ap (P .places) q ∙ r; agree = λ b. subst (P .agrees) (sym q) (a b) }
 
 module _ {X : Type 0} (P : Ghosts X) (keeps : (s : X) (b : ℕ) (m : Bool) → P .agrees s → Shuffled (b ∷ P .entries s) (P .after s b m)) where
   swapped : (b f : ℕ) (es : List ℕ) → Shuffled (b ∷ f ∷ es) (f ∷ b ∷ es)
@@ -64,11 +51,12 @@ module _ {X : Type 0} (P : Ghosts X) (keeps : (s : X) (b : ℕ) (m : Bool) → P
   slot-keeps s b true a = under-slot (s .slot) b (P .entries (s .below)) (P .after (s .below) b true) (keeps (s .below) b true (a .0))
   slot-keeps s b false a = shuffled-cons b (slot-entries P s) (lowered P (s .slot) (s .below)) (lowered-keeps (s .slot) (s .below) (a .0) (a .1))
 
-  -- then another bay can go there too
-  pub went : (slot : Option ℕ) (below below′ : X) (b : ℕ) → Went P slot below below′ → accepts b (slotted slot (P .entries below)) (P .places below) ≡ true
-      → P .agrees below → could-go slot (P .entries below) (P .places below) ≡ true → accepts b (P .entries below′) (P .places below′) ≡ true
-  went slot below below′ b w h g k =
+  -- once the slot's bay has gone below, another one could go there too
+  pub could-follow : (slot : Option ℕ) (below below′ : X) (b : ℕ) → P .entries below′ ≡ lowered P slot below → P .places below′ ≡ P .places below
+      → accepts b (slotted slot (P .entries below)) (P .places below) ≡ true → P .agrees below → could-go slot (P .entries below) (P .places below) ≡ true
+      → accepts b (P .entries below′) (P .places below′) ≡ true
+  could-follow slot below below′ b items room h g k =
       let s = lowered-keeps slot below g k in
       let l = length-shuffled _ _ s in
       let i = is-in-shuffled b _ _ s in
-      ap (accepts b (P .entries below′)) (w .room) ∙ ap (λ es. accepts b es (P .places below)) (w .items) ∙ rw (l, i) h
+      ap (accepts b (P .entries below′)) room ∙ ap (λ es. accepts b es (P .places below)) items ∙ rw (l, i) h

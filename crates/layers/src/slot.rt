@@ -3,7 +3,7 @@ ghost use mathlib.Core.Path.{_≡_};
 ghost use mathlib.Core.Bool.{true, false};
 ghost use Rattle.std.specs.declared.option.Option.the-variants.{None};
 ghost use Rattle.schedule.specs.Entries.{accepts};
-ghost use Rattle.layers.specs.Slots.{slot-entries, slot-places, slot-agrees, slot-after};
+ghost use Rattle.layers.specs.Slots.{slot-entries, slot-places, slot-agrees, lowered, slot-after};
 use schedule::Schedule;
 
 // A new bay fills the slot, and the bay that was there goes below;
@@ -38,15 +38,25 @@ impl<P: Schedule> Slot<P> {
         let _accepted = self.below.put(bay, true);
     }
 
+    // The slot's bay, if any, goes below; the slot is left to be filled.
+    fn lower(&mut self)
+        ensures slot { λ _. ⌜ now (self .exit) .slot ≡ now (self .entry) .slot ⌝ }
+        ensures agrees { λ _. ⌜ (P·Schedule .agrees (now (self .entry) .below) → P·Schedule .agrees (now (self .exit) .below)) ⌝ }
+        ensures items { λ _. ⌜ P·Schedule .entries (now (self .exit) .below) ≡ lowered P·Schedule (now (self .entry) .slot) (now (self .entry) .below) ⌝ }
+        ensures room { λ _. ⌜ slot-places P·Schedule (now (self .exit)) ≡ slot-places P·Schedule (now (self .entry)) ⌝ }
+    {
+        if let Some(former) = self.slot {
+            let _accepted = self.below.put(former, false);
+        }
+    }
+
     fn fill(&mut self, bay: u32)
         requires { ⌜ accepts bay (slot-entries P·Schedule (now self)) (slot-places P·Schedule (now self)) ≡ true ⌝ }
         ensures agrees { λ _. ⌜ (slot-agrees P·Schedule (now (self .entry)) → slot-agrees P·Schedule (now (self .exit))) ⌝ }
         ensures items { λ _. ⌜ slot-entries P·Schedule (now (self .exit)) ≡ slot-after P·Schedule (now (self .entry)) bay false ⌝ }
         ensures room { λ _. ⌜ slot-places P·Schedule (now (self .exit)) ≡ slot-places P·Schedule (now (self .entry)) ⌝ }
     {
-        if let Some(former) = self.slot {
-            let _accepted = self.below.put(former, false);
-        }
+        self.lower();
         self.slot = Some(bay);
     }
 }

@@ -1,8 +1,8 @@
-use mathlib.Core.Path.{_≡_, sym, _∙_, ap, subst}
-use mathlib.Core.Bool.{true, cond}
+use mathlib.Core.Path.{_∙_, ap}
+use mathlib.Core.Bool.{true}
 use Rattle.schedule.specs.Entries.{accepts}
 use Rattle.layers.specs.Slots.{slotted, could-go}
-use Rattle.layers.proofs.Slots.{accepts-below, could-still}
+use Rattle.layers.proofs.Slots.{taken-way, accepts-below, could-still}
 use Rattle.layers.proofs.slot.Slot.put_below.Needs as need
 
 pub returns : need.returns
@@ -14,7 +14,7 @@ returns g c =
     let n = P .places (s .below) in
     let e = c .put-accepted .ensures in
     let ok = accepts-below (s .slot) es n b (c .pre) in
-    let es′ : P .entries (c .put-accepted .last .self) ≡ P .after (s .below) b true = e .items ∙ ap (λ t. cond t (P .after (s .below) b true) es) ok in
+    let es′ = taken-way (accepts b es n) (P .entries (c .put-accepted .last .self)) (P .after (s .below) b true) es ok (e .items) in
     record {
       agrees = λ a. (
         e .agrees (a .0),
