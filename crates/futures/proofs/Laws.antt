@@ -14,7 +14,7 @@ use Rattle.std.specs.Options.{Cases}
 use Rattle.std.specs.declared.option.Option.{Option}
 use Rattle.std.specs.declared.option.Option.the-variants.{Some, None}
 use Rattle.futures.specs.Step.{Step, pends, gives}
-use Rattle.futures.specs.Through.{Through, standing, finished, through}
+use Rattle.futures.specs.Through.{standing, finished, through}
 use Rattle.futures.specs.Kinds.{countdown-step, countdown-start, transfer-step, transfer-start, played-on, recording}
 use Rattle.futures.specs.Runs.{Plays, Counts-down, Transfers, Reached}
 use Rattle.futures.specs.declared.runs.Played.{Played}

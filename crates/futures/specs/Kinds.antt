@@ -1,7 +1,7 @@
 -- What one poll does, for each kind of future.
 use Prim.Native.Nat.{ℕ, _+_, _-_, min}
 use mathlib.Core.Bool.{cond}
-use lib.Dec.{eqb, ltb}
+use lib.Dec.{eqb}
 use Rattle.futures.specs.Step.{Step, pends, gives}
 use Rattle.futures.specs.declared.countdown.Countdown.{Countdown}
 use Rattle.futures.specs.declared.transfer.Transfer.{Transfer}

@@ -1,5 +1,4 @@
 // A future that counts its polls down.
-ghost use mathlib.Core.Path.{_≡_};
 ghost use Rattle.futures.specs.Kinds.{countdown-step, countdown-start};
 ghost use Rattle.futures.specs.Runs.{Counts-down};
 use super::future::Future;

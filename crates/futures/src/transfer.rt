@@ -1,5 +1,4 @@
 // A future that plays a tape, a stretch of seconds at a time.
-ghost use mathlib.Core.Path.{_≡_};
 ghost use Rattle.futures.specs.Kinds.{transfer-step, transfer-start};
 ghost use Rattle.futures.specs.Runs.{Transfers};
 use super::future::Future;

@@ -1,21 +1,19 @@
 -- What a put leaves in a Slot.
-use Prim.Native.Nat.{ℕ, _<_}
-use mathlib.Core.Path.{_≡_, refl, sym, _∙_, ap, subst}
-use mathlib.Core.Bool.{Bool, true, false, cond, not, _&&_, _||_}
-use mathlib.Core.List.{List, [], _∷_, _++_}
+use Prim.Native.Nat.{ℕ}
+use mathlib.Core.Path.{_≡_, refl, _∙_, ap}
+use mathlib.Core.Bool.{Bool, true, false, cond}
+use mathlib.Core.List.{List, _∷_}
 use native.Mathlib.Omega.{arith}
-use lib.Dec.{eqb, ltb}
-use lib.ListN.{length}
 use Rattle.std.proofs.shelf.Ways.{tells}
 use Rattle.std.proofs.shelf.Sorted.{length-shuffled, shuffled-refl, shuffled-cons, shuffled-trans, shuffled-swap}
 use Rattle.std.specs.Slices.{Shuffled}
 use Rattle.std.specs.declared.option.Option.{Option}
 use Rattle.std.specs.declared.option.Option.the-variants.{Some, None}
 use Rattle.schedule.specs.declared.Schedule.{Ghosts}
-use Rattle.schedule.specs.Entries.{is-in, accepts}
+use Rattle.schedule.specs.Entries.{accepts}
 use Rattle.schedule.proofs.Entries.{is-in-shuffled}
 use Rattle.layers.specs.declared.slot.Slot.{Slot}
-use Rattle.layers.specs.Slots.{slotted, slot-entries, slot-places, could-go, slot-agrees, lowered, slot-after}
+use Rattle.layers.specs.Slots.{slotted, slot-entries, could-go, slot-agrees, lowered, slot-after}
 
 pub taken-way : (t : Bool) (xs ys zs : List ℕ) → t ≡ true → xs ≡ cond t ys zs → xs ≡ ys
 taken-way t xs ys zs h e = e ∙ ap (λ b. cond b ys zs) h

@@ -4,7 +4,7 @@ ghost use mathlib.Core.Bool.{true, false};
 ghost use mathlib.Core.List.{[]};
 ghost use Prim.Native.Nat.{min};
 ghost use Rattle.std.specs.Vec.{made};
-ghost use Rattle.schedule.specs.Entries.{is-in, accepts};
+ghost use Rattle.schedule.specs.Entries.{accepts};
 ghost use Rattle.queues.specs.Lines.{in-line, line-places, joined};
 use super::line::End;
 use super::line::Line;

@@ -1,7 +1,7 @@
 -- Which numbers a list of entries has, and what an accepted put tells.
 use Prim.Native.Nat.{ℕ, _<_}
 use mathlib.Core.Path.{_≡_, refl, sym, _∙_, ap}
-use mathlib.Core.Bool.{Bool, true, false, cond, not, _&&_, _||_}
+use mathlib.Core.Bool.{Bool, true, false, _||_}
 use mathlib.Core.List.{List, [], _∷_, _++_}
 use native.Mathlib.Omega.{arith}
 use lib.Dec.{eqb, ltb}
@@ -14,7 +14,6 @@ use Rattle.std.specs.Orderings.{Decides}
 use Rattle.std.specs.Places.{Some-of}
 use Rattle.std.specs.Options.{isSome}
 use Rattle.schedule.specs.Entries.{is-in, distinct, below-64, first, accepts}
-use Rattle.schedule.specs.History.{times}
 use Rattle.schedule.proofs.Times.{times-append, times-shuffled, is-in-times}
 
 pub is-in-append : (b : ℕ) (xs ys : List ℕ) → is-in b (xs ++ ys) ≡ (is-in b xs || is-in b ys)

@@ -11,9 +11,9 @@ use Rattle.schedule.specs.declared.requests.Request.the-variants.{Put, Take}
 use Rattle.schedule.specs.declared.requests.Answer.{Answer}
 use Rattle.schedule.specs.declared.requests.Answer.the-variants.{Accepted, Refused, Gave, Empty}
 use Rattle.schedule.specs.Entries.{first, accepts}
-use Rattle.schedule.specs.History.{Event, event, put-in, took-out, in-order, ins, outs, times, Each}
+use Rattle.schedule.specs.History.{Event, event, put-in, took-out, in-order, ins, outs, times}
 use Rattle.schedule.specs.Requests.{given, Obeys, Ran, none, more}
-use Rattle.schedule.specs.Turns.{First-in-first-out, Settled, Is-last, Gives-last, Last-in-first-out}
+use Rattle.schedule.specs.Turns.{First-in-first-out, Is-last, Last-in-first-out}
 use Rattle.schedule.proofs.Times.{times-append}
 
 module _ {S : Type 0} (P : Ghosts S) (last : (s : S) (b : ℕ) (m : Bool) → P .after s b m ≡ P .entries s ++ b ∷ []) where

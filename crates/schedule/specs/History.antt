@@ -1,7 +1,6 @@
 -- What happened to a policy: the requests it was given, each with its answer, the newest first.
 use Prim.Native.Nat.{ℕ, _-_}
-use mathlib.Core.Path.{_≡_}
-use mathlib.Core.Bool.{Bool, true, false, cond, not, _&&_}
+use mathlib.Core.Bool.{Bool}
 use mathlib.Core.List.{List, [], _∷_, _++_, reverse}
 use lib.Dec.{eqb, ltb}
 use lib.ListN.{length}
@@ -11,14 +10,15 @@ use Rattle.schedule.specs.declared.requests.Request.the-variants.{Put, Take}
 use Rattle.schedule.specs.declared.requests.Answer.{Answer}
 use Rattle.schedule.specs.declared.requests.Answer.the-variants.{Accepted, Refused, Gave, Empty}
 
+-- a request and its answer
 pub data Event : Type 0 where
   event : Request → Answer → Event
 
 -- each request beside its answer
 abbrev pub beside : List Request → List Answer → List Event
 beside [] answers = []
-beside (o ∷ requests) [] = []
-beside (o ∷ requests) (a ∷ answers) = event o a ∷ beside requests answers
+beside (r ∷ requests) [] = []
+beside (r ∷ requests) (a ∷ answers) = event r a ∷ beside requests answers
 
 -- the history of a list of requests, each with its answer
 abbrev pub history : List Request → List Answer → List Event
@@ -57,7 +57,7 @@ outs h = in-order took-out h
 abbrev pub times : ℕ → List ℕ → ℕ
 times b xs = countBy (λ x. eqb x b) xs
 
--- the number has been put in once more than it was taken out
+-- the number has been put in more often than it was taken out
 abbrev pub inside : ℕ → List Event → Bool
 inside b h = ltb (times b (outs h)) (times b (ins h))
 

@@ -1,13 +1,15 @@
 -- What a list of requests does, for every policy. P gives a policy's meaning: its entries, places, what a put leaves, and agreement.
 use Prim.Native.Nat.{ℕ, _+_, _≤_}
 use mathlib.Core.Path.{_≡_}
-use mathlib.Core.Bool.{Bool, true, false, cond, not, _&&_}
+use mathlib.Core.Bool.{true, false, cond, not, _&&_}
 use mathlib.Core.List.{List, [], _∷_}
 use lib.Dec.{ltb}
 use lib.ListN.{length, drop}
 use Rattle.std.specs.Options.{isSome}
 use Rattle.std.specs.declared.option.Option.{Option}
 use Rattle.std.specs.declared.option.Option.the-variants.{Some, None}
+use Rattle.std.specs.declared.result.Result.{Result}
+use Rattle.std.specs.declared.result.Result.the-variants.{Ok, Err}
 use Rattle.schedule.specs.declared.Schedule.{Ghosts}
 use Rattle.schedule.specs.declared.requests.Request.{Request}
 use Rattle.schedule.specs.declared.requests.Request.the-variants.{Put, Take}
@@ -15,7 +17,7 @@ use Rattle.schedule.specs.declared.requests.Answer.{Answer}
 use Rattle.schedule.specs.declared.requests.Answer.the-variants.{Accepted, Refused, Gave, Empty}
 use Rattle.schedule.specs.declared.requests.Unserved.{Unserved}
 use Rattle.schedule.specs.declared.requests.Unserved.the-variants.{NotEmpty, NoRoom}
-use Rattle.schedule.specs.Entries.{is-in, first, accepts}
+use Rattle.schedule.specs.Entries.{first, accepts}
 use Rattle.schedule.specs.History.{Event, event, history, ins, outs, times, inside, held, Each}
 
 -- the answer of a take
@@ -40,7 +42,7 @@ Obeys P s Take a s′ =
 -- A list of requests: each finds the policy as the one before left it.
 pub data Ran {S : Type 0} (P : Ghosts S) (start : S) : List Event → S → Type 0 where
   none : Ran P start [] start
-  more : {h : List Event} {s s′ : S} (o : Request) (a : Answer) → Ran P start h s → Obeys P s o a s′ → Ran P start (event o a ∷ h) s′
+  more : {h : List Event} {s s′ : S} (r : Request) (a : Answer) → Ran P start h s → Obeys P s r a s′ → Ran P start (event r a ∷ h) s′
 
 -- Each answer follows from the history before it: a put is accepted exactly if the number is below 64 and not inside,
 -- and fewer numbers are inside than there are places; a take gives a number that is inside, and is Empty only if none is.
@@ -70,3 +72,8 @@ pub record Serves {S : Type 0} (P : Ghosts S) (s : S) (requests : List Request) 
 -- Why a list of n requests is not carried out, if it is not: the policy has an entry, or else there is no room for the answers.
 abbrev pub refusal : List ℕ → ℕ → ℕ → Option Unserved
 refusal entries n room = cond (isSome (first entries)) (Some NotEmpty) (cond (ltb room n) (Some NoRoom) None)
+
+-- It is refused for this reason and for no other, and then the policy s and the place v for the answers stay as they were.
+abbrev pub Refuses : {S V T : Type 0} → Ghosts S → List Request → ℕ → S → V → Result T Unserved → S → V → Type 0
+Refuses P requests room s v (Ok x) s′ v′ = refusal (P .entries s) (length requests) room ≡ None
+Refuses P requests room s v (Err why) s′ v′ = (refusal (P .entries s) (length requests) room ≡ Some why) × (s′ ≡ s) × (v′ ≡ v)

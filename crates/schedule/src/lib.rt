@@ -28,17 +28,20 @@ pub trait Schedule {
     // the policy's parts agree with each other, as each kind defines
     ghost agrees: { Self → Type 0 };
 
+    // a policy without entries agrees
     law fresh: { (s : Self) → entries s ≡ [] → agrees s };
 
+    // where the parts agree, no number stands twice, each is below 64, and they fit the places
     law single: { (s : Self) → agrees s → distinct (entries s) ≡ true };
 
     law below: { (s : Self) → agrees s → below-64 (entries s) ≡ true };
 
     law fits: { (s : Self) → agrees s → length (entries s) ≤ places s };
 
-    // an accepted put keeps the entries, in some order, and adds the new one
+    // and an accepted put keeps the entries, in some order, and adds the new one
     law keeps: { (s : Self) (b : ℕ) (m : Bool) → agrees s → Shuffled (b ∷ entries s) (after s b m) };
 
+    // whatever the policy, there are at most 64 places
     law most: { (s : Self) → places s ≤ 64 };
 
     // Adds a bay, or answers false and changes nothing.

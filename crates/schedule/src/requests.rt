@@ -1,11 +1,7 @@
 // Lists of puts and takes.
-ghost use mathlib.Core.Path.{_≡_};
-ghost use lib.ListN.{length};
 ghost use Rattle.std.specs.Of.Vec.{vec-items, vec-cap};
-ghost use Rattle.std.specs.Results.{Cases};
 ghost use Rattle.std.specs.Vec.{made};
-ghost use Rattle.std.specs.declared.option.Option.the-variants.{Some, None};
-ghost use Rattle.schedule.specs.Requests.{Obeys, Serves, refusal};
+ghost use Rattle.schedule.specs.Requests.{Obeys, Serves, Refuses};
 use super::Schedule;
 
 // What a policy can be asked to change.
@@ -60,7 +56,7 @@ pub fn serve<S: Schedule>(
     answers: &mut Vec<Answer>,
 ) -> Result<(), Unserved>
     ensures served { λ r. ⌜ made r (λ _. Serves S·Schedule (now (policy .entry)) (now (requests .entry)) (vec-items (now (answers .exit))) (now (policy .exit))) ⌝ }
-    ensures refused { λ r. ⌜ Cases r (λ _. refusal (S·Schedule .entries (now (policy .entry))) (length (now (requests .entry))) (vec-cap (now (answers .entry))) ≡ None) (λ why. (refusal (S·Schedule .entries (now (policy .entry))) (length (now (requests .entry))) (vec-cap (now (answers .entry))) ≡ Some why) × (now (policy .exit) ≡ now (policy .entry)) × (now (answers .exit) ≡ now (answers .entry))) ⌝ }
+    ensures refused { λ r. ⌜ Refuses S·Schedule (now (requests .entry)) (vec-cap (now (answers .entry))) (now (policy .entry)) (now (answers .entry)) r (now (policy .exit)) (now (answers .exit)) ⌝ }
 {
     if policy.peek().is_some() {
         return Err(Unserved::NotEmpty);

@@ -1,14 +1,14 @@
 -- The bits of a word, one by one, and the count above the flags.
-use Prim.Native.Nat.{ℕ, zero, suc, _+_, _-_, _*_, _/_, _%_, _^_, _<_, _≤_, min, max}
-use mathlib.Core.Path.{_≡_, refl, sym, _∙_, ap}
-use mathlib.Core.Bool.{Bool, true, false, not, _&&_, _||_}
+use Prim.Native.Nat.{ℕ, zero, suc, _+_, _-_, _*_, _/_, _%_, _^_, _<_, min, max}
+use mathlib.Core.Path.{_≡_, sym, _∙_, ap}
+use mathlib.Core.Bool.{not}
 use native.Mathlib.Omega.{arith}
 use native.Mathlib.Nat.{zero-mul}
 use lib.Bits.{bitAnd, bitOr, and-step, or-step, and-shr, or-shr, and-high, and-mask, or-zero-r}
 use lib.Dec.{ltb, eqb}
 use Rattle.std.proofs.shelf.Bits.{pow-pos, pow-add}
 use Rattle.std.proofs.shelf.Ways.{tells}
-use Rattle.word.specs.State.{has, count, with-flags, without-flags, Sets-only, Clears-only}
+use Rattle.word.specs.State.{has, count, without-flags, Sets-only, Clears-only}
 
 -- the bit of a word at a place
 abbrev pub bit : ℕ → ℕ → ℕ

@@ -1,5 +1,4 @@
 use mathlib.Core.Path.{refl, sym, _∙_, ap}
-use lib.ListN.{take}
 use Rattle.std.proofs.shelf.Lists.{take-all}
 use native.Mathlib.Omega.{arith}
 use Rattle.futures.specs.Through.{through, after-step}
