@@ -32,10 +32,20 @@ gives-by : {F O : Type 0} (t : Bool) (o p : O) (f : F) → cond t (gives o) (pen
 gives-by true o p f e = (refl, cc)
 gives-by false o p f e = absurd (let z : _≡_ {A = ℕ} 0 1 = cc in omega arith)
 
--- the last word of a run that is finished
-last-word : {F O : Type 0} (step : F → ℕ → Step F O) (f : F) (ws : List ℕ) (p : ℕ) (o : O) → p < length ws → through step f (take (p + 1) ws) ≡ finished o
-    → (g : F) × (through step f (take p ws) ≡ standing g) × (step g (getD ws p 0) ≡ gives o)
-last-word step f ws p o h e = finishes step f (take p ws) (getD ws p 0) o (ap (through step f) (sym (take-more ws p 0 h)) ∙ e)
+-- where a run stopped: the future stood there, and either no word is left or the next one gave Ready
+record Stopped {F O : Type 0} (step : F → ℕ → Step F O) (f : F) (ws : List ℕ) (p : ℕ) (out : Option O) : Type 0 where
+  here : F
+  within : p ≤ length ws
+  stood : through step f (take p ws) ≡ standing here
+  then : Cases out (p ≡ length ws) (λ o. (p < length ws) × (step here (getD ws p 0) ≡ gives o))
+
+stopped : {F O : Type 0} (step : F → ℕ → Step F O) (f later : F) (ws : List ℕ) (p : ℕ) (out : Option O)
+    → Cases out ((p ≡ length ws) × (through step f ws ≡ standing later)) (λ o. (p < length ws) × (through step f (take (p + 1) ws) ≡ finished o))
+    → Stopped step f ws p out
+stopped step f later ws p None (e, t) = record { here = later; within = omega arith; stood = ap (through step f) (take-all p ws (omega arith)) ∙ t; then = e }
+stopped step f later ws p (Some o) (l, t) =
+    let s = finishes step f (take p ws) (getD ws p 0) o (ap (through step f) (sym (take-more ws p 0 l)) ∙ t) in
+    record { here = s .0; within = omega arith; stood = s .1; then = (l, s .2) }
 
 -- a countdown that stands has one poll fewer left for each word
 abbrev Counted : ℕ → List ℕ → Countdown → Type 0
@@ -54,18 +64,17 @@ counted : (n : ℕ) (ws : List ℕ) (c : Countdown) → through countdown-step (
 counted n ws c e = stands countdown-step (Counted n) (count-kept n) ws (countdown-start n) c (refl, omega arith) e
 
 pub counts-down : (n : ℕ) (ws : List ℕ) (r : Played ℕ) (later : Countdown) → Plays countdown-step (countdown-start n) ws r later → Counts-down n ws r
-counts-down n ws r later h = by-output (r .pending) (r .output) h
+counts-down n ws r later h =
+    let s = stopped countdown-step (countdown-start n) later ws (r .pending) (r .output) h in
+    by-output (r .pending) (r .output) (s .here) (counted n (take (r .pending) ws) (s .here) (s .stood)) (s .then)
   where
-    by-output : (p : ℕ) (out : Option ℕ)
-        → Cases out ((p ≡ length ws) × (through countdown-step (countdown-start n) ws ≡ standing later)) (λ o. (p < length ws) × (through countdown-step (countdown-start n) (take (p + 1) ws) ≡ finished o))
+    by-output : (p : ℕ) (out : Option ℕ) (g : Countdown) → Counted n (take p ws) g
+        → Cases out (p ≡ length ws) (λ o. (p < length ws) × (countdown-step g (getD ws p 0) ≡ gives o))
         → (p ≡ min n (length ws)) × (out ≡ cond (ltb n (length ws)) (Some n) None)
-    by-output p None (e, t) = let c = counted n ws later t in (omega arith, grind (arith, tells))
-    by-output p (Some o) (l, t) =
-        let s = last-word countdown-step (countdown-start n) ws p o l t in
-        let g = s .0 in
-        let c = counted n (take p ws) g (s .1) in
+    by-output p None g c e = let k = length-take p ws in (omega arith, grind (arith, tells))
+    by-output p (Some o) g c (l, t) =
         let k = length-take p ws in
-        let y = gives-by (eqb (g .left) 0) (g .from) o _ (s .2) in
+        let y = gives-by (eqb (g .left) 0) (g .from) o _ t in
         let z = y .0 in
         let x : o ≡ n = y .1 ∙ c .0 in
         let q : p ≡ n = grind (arith, tells) in
@@ -104,24 +113,23 @@ unreached goal ws p t l e i h reached =
     omega arith
 
 pub transfers : (goal : ℕ) (ws : List ℕ) (r : Played Recording) (later : Transfer) → Plays transfer-step (transfer-start goal) ws r later → Transfers goal ws r
-transfers goal ws r later h = by-output (r .pending) (r .output) h
+transfers goal ws r later h =
+    let s = stopped transfer-step (transfer-start goal) later ws (r .pending) (r .output) h in (
+      unreached goal ws (r .pending) (s .here) (s .within) (s .stood),
+      by-output (r .pending) (r .output) (s .here) (stretched goal (take (r .pending) ws) (s .here) (s .stood)) (s .then),
+    )
   where
-    by-output : (p : ℕ) (out : Option Recording)
-        → Cases out ((p ≡ length ws) × (through transfer-step (transfer-start goal) ws ≡ standing later)) (λ o. (p < length ws) × (through transfer-step (transfer-start goal) (take (p + 1) ws) ≡ finished o))
-        → ((i : ℕ) → i < p → Reached goal ws i → ⊥)
-        × Cases out (p ≡ length ws) (λ o. (p < length ws) × Reached goal ws p × (o ≡ record { seconds = goal; polls = min (p + 1) 4294967295 }))
-    by-output p None (e, t) =
-        (unreached goal ws p later (omega arith) (ap (through transfer-step (transfer-start goal)) (take-all p ws (omega arith)) ∙ t), e)
-    by-output p (Some o) (l, t) =
-        let s = last-word transfer-step (transfer-start goal) ws p o l t in
-        let g = s .0 in
+    by-output : (p : ℕ) (out : Option Recording) (g : Transfer) → Stretched goal (take p ws) g
+        → Cases out (p ≡ length ws) (λ o. (p < length ws) × (transfer-step g (getD ws p 0) ≡ gives o))
+        → Cases out (p ≡ length ws) (λ o. (p < length ws) × Reached goal ws p × (o ≡ record { seconds = goal; polls = min (p + 1) 4294967295 }))
+    by-output p None g c e = e
+    by-output p (Some o) g c (l, t) =
         let w = getD ws p 0 in
-        let c = stretched goal (take p ws) g (s .1) in
         let k = length-take p ws in
-        let y = gives-by (eqb (played-on g w .seconds) (g .goal)) (recording (played-on g w)) o (played-on g w) (s .2) in
+        let y = gives-by (eqb (played-on g w .seconds) (g .goal)) (recording (played-on g w)) o (played-on g w) t in
         let z = y .0 in
         let m : sum (take (p + 1) ws) ≡ sum (take p ws) + w = sumBy-more (λ x. x) ws p 0 l in
         let full : min (g .seconds + w) (g .goal) ≡ g .goal = grind (arith, tells) in
         let secs : o .seconds ≡ goal = ap (λ x. x .seconds) (y .1) ∙ full ∙ c .0 in
         let polls : o .polls ≡ min (p + 1) 4294967295 = ap (λ x. x .polls) (y .1) ∙ omega arith in
-        (unreached goal ws p g (omega arith) (s .1), (l, omega arith, cc))
+        (l, omega arith, cc)

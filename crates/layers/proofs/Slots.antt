@@ -32,18 +32,18 @@ could-still (Some f) es es′ n b h k s =
     let i = is-in-shuffled f (b ∷ es) es′ s in
     grind (arith, tells)
 
-module _ {X : Type 0} (P : Ghosts X) (keeps : (s : X) (b : ℕ) (m : Bool) → P .agrees s → Shuffled (b ∷ P .entries s) (P .after s b m)) where
-  swapped : (b f : ℕ) (es : List ℕ) → Shuffled (b ∷ f ∷ es) (f ∷ b ∷ es)
-  swapped b f es = shuffled-swap (b ∷ f ∷ es) (f ∷ b ∷ es) 0 1 (omega arith) (omega arith) refl
+swapped : (b f : ℕ) (es : List ℕ) → Shuffled (b ∷ f ∷ es) (f ∷ b ∷ es)
+swapped b f es = shuffled-swap (b ∷ f ∷ es) (f ∷ b ∷ es) 0 1 (omega arith) (omega arith) refl
 
+under-slot : (slot : Option ℕ) (b : ℕ) (es es′ : List ℕ) → Shuffled (b ∷ es) es′ → Shuffled (b ∷ slotted slot es) (slotted slot es′)
+under-slot None b es es′ s = s
+under-slot (Some f) b es es′ s = shuffled-trans _ _ _ (swapped b f es) (shuffled-cons f (b ∷ es) es′ s)
+
+module _ {X : Type 0} (P : Ghosts X) (keeps : (s : X) (b : ℕ) (m : Bool) → P .agrees s → Shuffled (b ∷ P .entries s) (P .after s b m)) where
   -- the entries below and the slot's bay, once that has gone below
   pub lowered-keeps : (slot : Option ℕ) (below : X) → P .agrees below → could-go slot (P .entries below) (P .places below) ≡ true → Shuffled (slotted slot (P .entries below)) (lowered P slot below)
   lowered-keeps None below g k = shuffled-refl (P .entries below)
   lowered-keeps (Some f) below g k = rw k (keeps below f false g)
-
-  under-slot : (slot : Option ℕ) (b : ℕ) (es es′ : List ℕ) → Shuffled (b ∷ es) es′ → Shuffled (b ∷ slotted slot es) (slotted slot es′)
-  under-slot None b es es′ s = s
-  under-slot (Some f) b es es′ s = shuffled-trans _ _ _ (swapped b f es) (shuffled-cons f (b ∷ es) es′ s)
 
   pub slot-keeps : (s : Slot X) (b : ℕ) (m : Bool) → slot-agrees P s → Shuffled (b ∷ slot-entries P s) (slot-after P s b m)
   slot-keeps s b true a = under-slot (s .slot) b (P .entries (s .below)) (P .after (s .below) b true) (keeps (s .below) b true (a .0))

@@ -1,36 +1,24 @@
 -- What goes in comes out once: by induction over the requests.
-use Prim.Native.Nat.{ℕ, _+_, _≤_, _<_}
-use mathlib.Core.Path.{_≡_, refl, sym, _∙_, ap, subst}
+use Prim.Native.Nat.{ℕ, _+_}
+use mathlib.Core.Path.{_≡_, refl, sym, _∙_, ap}
 use mathlib.Core.Bool.{Bool, true, false, cond, not, _&&_}
-use mathlib.Core.List.{List, [], _∷_, _++_, reverse}
+use mathlib.Core.List.{List, [], _∷_}
 use native.Mathlib.Omega.{arith}
 use lib.Dec.{eqb, ltb}
-use lib.ListN.{length, drop, take, getD, length-append}
+use lib.ListN.{length, length-append}
 use Rattle.std.proofs.shelf.Ways.{tells}
-use Rattle.std.proofs.shelf.Lists.{reverse-append, take-more, length-take}
 use Rattle.std.proofs.shelf.Sorted.{length-shuffled}
 use Rattle.std.specs.Slices.{Shuffled}
-use Rattle.std.specs.Options.{isSome}
-use Rattle.std.specs.declared.option.Option.the-variants.{None}
 use Rattle.schedule.specs.declared.Schedule.{Ghosts}
 use Rattle.schedule.specs.declared.requests.Request.{Request}
 use Rattle.schedule.specs.declared.requests.Request.the-variants.{Put, Take}
 use Rattle.schedule.specs.declared.requests.Answer.{Answer}
 use Rattle.schedule.specs.declared.requests.Answer.the-variants.{Accepted, Refused, Gave, Empty}
-use Rattle.schedule.specs.Entries.{is-in, distinct, first, accepts}
-use Rattle.schedule.specs.History.{Event, event, beside, history, put-in, took-out, ins, outs, times, inside, held, Each}
-use Rattle.schedule.specs.Requests.{given, Obeys, Ran, none, more, Ruled, Once, refusal}
+use Rattle.schedule.specs.Entries.{is-in, distinct, accepts}
+use Rattle.schedule.specs.History.{Event, event, put-in, took-out, ins, outs, times, inside, held, Each}
+use Rattle.schedule.specs.Requests.{Obeys, Ran, Ruled, Once}
+use Rattle.schedule.proofs.Happens.{Happens, goes-in, stays-out, comes-out, none-there, happens, same-places, still-agrees, along}
 use Rattle.schedule.proofs.Times.{times-cons, times-append, times-shuffled, is-in-times, distinct-times}
-
--- one request more at the end of a list is one event more at the head of its history
-beside-push : (os : List Request) (ans : List Answer) (o : Request) (a : Answer) → length ans ≡ length os → beside (os ++ o ∷ []) (ans ++ a ∷ []) ≡ beside os ans ++ event o a ∷ []
-beside-push [] [] o a e = refl
-beside-push [] (b ∷ ans) o a e = absurd (omega arith)
-beside-push (p ∷ os) [] o a e = absurd (omega arith)
-beside-push (p ∷ os) (b ∷ ans) o a e = ap (λ r. event p b ∷ r) (beside-push os ans o a (omega arith))
-
-pub history-push : (os : List Request) (ans : List Answer) (o : Request) (a : Answer) → length ans ≡ length os → history (os ++ o ∷ []) (ans ++ a ∷ []) ≡ event o a ∷ history os ans
-history-push os ans o a e = ap reverse (beside-push os ans o a e) ∙ reverse-append (beside os ans) (event o a ∷ [])
 
 eqb-self : (b : ℕ) → eqb b b ≡ true
 eqb-self b = grind (arith, tells)
@@ -62,6 +50,10 @@ module _ {S : Type 0} (P : Ghosts S)
       let r = k .room in
       rw (i, j, r) refl
 
+  answer-is : (n b : ℕ) (h : List Event) (s : S) → Keeps n h s → (t : Bool) → accepts b (P .entries s) (P .places s) ≡ t
+      → cond t Accepted Refused ≡ cond (ltb b 64 && (not (inside b h) && ltb (held h) n)) Accepted Refused
+  answer-is n b h s k t e = ap (λ x. cond x Accepted Refused) (sym e ∙ accepted-is n b h s k)
+
   -- one event more: what it put in and what was there is what it took out and what is there now
   keeps-more : (n : ℕ) (h : List Event) (e : Event) (s s′ : S) → Keeps n h s → P .agrees s′ → P .places s′ ≡ P .places s → Ruled n h e
       → ((c : ℕ) → times c (put-in e) + times c (P .entries s) ≡ times c (took-out e) + times c (P .entries s′))
@@ -83,70 +75,44 @@ module _ {S : Type 0} (P : Ghosts S)
         omega arith);
   }
 
-  put-kept : (n b : ℕ) (m t : Bool) (h : List Event) (s s′ : S) (a : Answer) → Keeps n h s → accepts b (P .entries s) (P .places s) ≡ t
-      → a ≡ cond t Accepted Refused → P .entries s′ ≡ cond t (P .after s b m) (P .entries s) → P .places s′ ≡ P .places s → P .agrees s′
-      → Keeps n (event (Put b m) a ∷ h) s′
-  put-kept n b m true h s s′ a k t e i p g =
+  -- by what happens at the event
+  kept-by : (n : ℕ) (h : List Event) (e : Event) (s s′ : S) → Keeps n h s → P .agrees s′ → P .places s′ ≡ P .places s → Happens P s s′ e → Keeps n (e ∷ h) s′
+  kept-by n h e s s′ k g p (goes-in b m t i) =
       let sh = keeps s b m (k .agree) in
-      subst (λ x. Keeps n (event (Put b m) x ∷ h) s′) (sym e)
-      (keeps-more n h (event (Put b m) Accepted) s s′ k g p (sym (ap (λ x. cond x Accepted Refused) (sym (accepted-is n b h s k) ∙ t)))
+      keeps-more n h (event (Put b m) Accepted) s s′ k g p (answer-is n b h s k true t)
       (λ c. let v : times c (P .entries s′) ≡ times c (b ∷ P .entries s) = ap (times c) i ∙ times-shuffled c _ _ sh in
       let w = times-cons c b (P .entries s) in
       let u = times-cons c b [] in
       omega arith)
-      (let y = length-shuffled _ _ sh in let l : length (P .entries s′) ≡ length (P .after s b m) = ap length i in omega arith))
-  put-kept n b m false h s s′ a k t e i p g =
-      subst (λ x. Keeps n (event (Put b m) x ∷ h) s′) (sym e)
-      (keeps-more n h (event (Put b m) Refused) s s′ k g p (sym (ap (λ x. cond x Accepted Refused) (sym (accepted-is n b h s k) ∙ t)))
+      (let y = length-shuffled _ _ sh in let l : length (P .entries s′) ≡ length (P .after s b m) = ap length i in omega arith)
+  kept-by n h e s s′ k g p (stays-out b m t i) =
+      keeps-more n h (event (Put b m) Refused) s s′ k g p (answer-is n b h s k false t)
       (λ c. let v : times c (P .entries s′) ≡ times c (P .entries s) = ap (times c) i in omega arith)
-      (let l : length (P .entries s′) ≡ length (P .entries s) = ap length i in omega arith))
-
-  take-kept : (n : ℕ) (es : List ℕ) (h : List Event) (s s′ : S) (a : Answer) → Keeps n h s → P .entries s ≡ es
-      → a ≡ given (first es) → P .entries s′ ≡ drop 1 es → P .places s′ ≡ P .places s → P .agrees s′
-      → Keeps n (event Take a ∷ h) s′
-  take-kept n [] h s s′ a k q e i p g =
-      let l : length (P .entries s) ≡ 0 = ap length q in
-      let l′ : length (P .entries s′) ≡ 0 = ap length i in
-      subst (λ x. Keeps n (event Take x ∷ h) s′) (sym e)
-      (keeps-more n h (event Take Empty) s s′ k g p (held-is h (P .entries s) (k .long) ∙ l)
-      (λ c. let v : times c (P .entries s′) ≡ times c (P .entries s) = ap (times c) (i ∙ sym q) in omega arith)
-      (omega arith))
-  take-kept n (b ∷ es) h s s′ a k q e i p g =
+      (let l : length (P .entries s′) ≡ length (P .entries s) = ap length i in omega arith)
+  kept-by n h e s s′ k g p (comes-out b es q i) =
       let l : length (P .entries s) ≡ length (b ∷ es) = ap length q in
       let l′ : length (P .entries s′) ≡ length es = ap length i in
-      subst (λ x. Keeps n (event Take x ∷ h) s′) (sym e)
-      (keeps-more n h (event Take (Gave b)) s s′ k g p
-      (inside-is b h (P .entries s) (k .balance b) ∙ ap (is-in b) q ∙ (let t = eqb-self b in rw t refl))
+      let held-by = held-is h (P .entries s) (k .long) in
+      keeps-more n h (event Take (Gave b)) s s′ k g p
+      (inside-is b h (P .entries s) (k .balance b) ∙ ap (is-in b) q ∙ (let t = eqb-self b in rw t refl), omega arith)
       (λ c. let v : times c (P .entries s′) ≡ times c es = ap (times c) i in
       let w : times c (P .entries s) ≡ times c (b ∷ es) = ap (times c) q in
       let x = times-cons c b es in
       let u = times-cons c b [] in
       omega arith)
-      (omega arith))
+      (omega arith)
+  kept-by n h e s s′ k g p (none-there q i) =
+      let l : length (P .entries s) ≡ 0 = ap length q in
+      let l′ : length (P .entries s′) ≡ 0 = ap length i in
+      keeps-more n h (event Take Empty) s s′ k g p (held-is h (P .entries s) (k .long) ∙ l)
+      (λ c. let v : times c (P .entries s′) ≡ times c (P .entries s) = ap (times c) (i ∙ sym q) in omega arith)
+      (omega arith)
 
-  pub kept : (n : ℕ) (h : List Event) (s s′ : S) (o : Request) (a : Answer) → Keeps n h s → Obeys P s o a s′ → Keeps n (event o a ∷ h) s′
-  kept n h s s′ (Put b m) a k (e, i, p, g, _) = put-kept n b m (accepts b (P .entries s) (P .places s)) h s s′ a k refl e i p (g (k .agree))
-  kept n h s s′ Take a k (e, i, p, g) = take-kept n (P .entries s) h s s′ a k refl e i p (g (k .agree))
-
-  pub ran-kept : (start s : S) (h : List Event) → P .entries start ≡ [] → P .agrees start → Ran P start h s → Keeps (P .places start) h s
-  ran-kept start s h e g none = record { agree = g; room = refl; answers = tt; balance = λ b. (let t : times b (P .entries start) ≡ 0 = ap (times b) e in omega arith); long = (let l : length (P .entries start) ≡ 0 = ap length e in omega arith) }
-  ran-kept start s h e g (more {h = h₀} {s = s₀} o a r y) = kept (P .places start) h₀ s₀ s o a (ran-kept start s₀ h₀ e g r) y
+  kept : (n : ℕ) (h : List Event) (s s′ : S) (r : Request) (a : Answer) → Keeps n h s → Obeys P s r a s′ → Keeps n (event r a ∷ h) s′
+  kept n h s s′ r a k y = kept-by n h (event r a) s s′ k (still-agrees P s s′ r a y (k .agree)) (same-places P s s′ r a y) (happens P s s′ r a y)
 
   pub once : (start s : S) (h : List Event) → P .entries start ≡ [] → P .agrees start → Ran P start h s → Once (P .places start) h (P .entries s)
-  once start s h e g r =
-      let k = ran-kept start s h e g r in
+  once start s h e g ran =
+      let first-keeps : Keeps (P .places start) [] start = record { agree = g; room = refl; answers = tt; balance = λ b. (let t : times b (P .entries start) ≡ 0 = ap (times b) e in omega arith); long = (let l : length (P .entries start) ≡ 0 = ap length e in omega arith) } in
+      let k = along P start (Keeps (P .places start)) first-keeps (kept (P .places start)) h s ran in
       record { answers = k .answers; balance = k .balance; single = λ b. distinct-times b (P .entries s) (single s (k .agree)) }
-
--- one request more of a list, and its answer
-pub ran-more : {S : Type 0} (P : Ghosts S) (start : S) (os : List Request) (i : ℕ) (d : Request) (ans ans′ : List Answer) (a : Answer) (s s′ : S)
-    → i < length os → length ans ≡ i → ans′ ≡ ans ++ a ∷ []
-    → Ran P start (history (take i os) ans) s → Obeys P s (getD os i d) a s′ → Ran P start (history (take (i + 1) os) ans′) s′
-ran-more P start os i d ans ans′ a s s′ h n q r y =
-    let l = length-take i os in
-    let o = getD os i d in
-    let w : history (take (i + 1) os) ans′ ≡ event o a ∷ history (take i os) ans =
-    ap (λ x. history x ans′) (take-more os i d h) ∙ ap (history (take i os ++ o ∷ [])) q ∙ history-push (take i os) ans o a (omega arith) in
-    subst (λ x. Ran P start x s′) (sym w) (more o a r y)
-
-pub unrefused : (es : List ℕ) (n room : ℕ) → isSome (first es) ≡ false → n ≤ room → refusal es n room ≡ None
-unrefused es n room e h = rw e (let t : ltb room n ≡ false = grind (arith, tells) in rw t refl)

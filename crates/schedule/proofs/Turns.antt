@@ -1,48 +1,34 @@
 -- Policies that put last, and policies that put first.
 use Prim.Native.Nat.{ℕ, _+_}
 use mathlib.Core.Path.{_≡_, refl, sym, _∙_, ap, subst}
-use mathlib.Core.Bool.{Bool, true, false, cond}
+use mathlib.Core.Bool.{Bool}
 use mathlib.Core.List.{List, [], _∷_, _++_, append-assoc, append-nil}
 use native.Mathlib.Omega.{arith}
-use lib.ListN.{drop}
 use Rattle.schedule.specs.declared.Schedule.{Ghosts}
-use Rattle.schedule.specs.declared.requests.Request.{Request}
 use Rattle.schedule.specs.declared.requests.Request.the-variants.{Put, Take}
-use Rattle.schedule.specs.declared.requests.Answer.{Answer}
 use Rattle.schedule.specs.declared.requests.Answer.the-variants.{Accepted, Refused, Gave, Empty}
-use Rattle.schedule.specs.Entries.{first, accepts}
+use Rattle.schedule.specs.Entries.{first}
 use Rattle.schedule.specs.History.{Event, event, put-in, took-out, in-order, ins, outs, times}
-use Rattle.schedule.specs.Requests.{given, Obeys, Ran, none, more}
+use Rattle.schedule.specs.Requests.{Ran}
 use Rattle.schedule.specs.Turns.{First-in-first-out, Is-last, Last-in-first-out}
+use Rattle.schedule.proofs.Happens.{Happens, goes-in, stays-out, comes-out, none-there, happens, along}
 use Rattle.schedule.proofs.Times.{times-append}
 
+-- one event more: what stood and what it put in is what it took out and what stands now
+fifo-moved : (h : List Event) (e : Event) (es es′ : List ℕ) → First-in-first-out h es → es ++ put-in e ≡ took-out e ++ es′ → First-in-first-out (e ∷ h) es′
+fifo-moved h e es es′ k q =
+    ap (λ x. x ++ put-in e) k ∙ append-assoc (outs h) es (put-in e) ∙ ap (λ x. outs h ++ x) q ∙ sym (append-assoc (outs h) (took-out e) es′)
+
 module _ {S : Type 0} (P : Ghosts S) (last : (s : S) (b : ℕ) (m : Bool) → P .after s b m ≡ P .entries s ++ b ∷ []) where
-  put-last : (b : ℕ) (m t : Bool) (h : List Event) (s s′ : S) (a : Answer) → First-in-first-out h (P .entries s)
-      → a ≡ cond t Accepted Refused → P .entries s′ ≡ cond t (P .after s b m) (P .entries s) → First-in-first-out (event (Put b m) a ∷ h) (P .entries s′)
-  put-last b m true h s s′ a k e i =
-      subst (λ x. First-in-first-out (event (Put b m) x ∷ h) (P .entries s′)) (sym e)
-      (ap (λ x. x ++ b ∷ []) k ∙ append-assoc (outs h) (P .entries s) (b ∷ []) ∙ ap (λ x. outs h ++ x) (sym (i ∙ last s b m))
-      ∙ ap (λ x. x ++ P .entries s′) (sym (append-nil (outs h))))
-  put-last b m false h s s′ a k e i =
-      subst (λ x. First-in-first-out (event (Put b m) x ∷ h) (P .entries s′)) (sym e)
-      (append-nil (ins h) ∙ k ∙ ap (λ x. outs h ++ x) (sym i) ∙ ap (λ x. x ++ P .entries s′) (sym (append-nil (outs h))))
-
-  take-first : (es : List ℕ) (h : List Event) (s′ : S) (a : Answer) → First-in-first-out h es
-      → a ≡ given (first es) → P .entries s′ ≡ drop 1 es → First-in-first-out (event Take a ∷ h) (P .entries s′)
-  take-first [] h s′ a k e i =
-      subst (λ x. First-in-first-out (event Take x ∷ h) (P .entries s′)) (sym e)
-      (append-nil (ins h) ∙ k ∙ ap (λ x. outs h ++ x) (sym i) ∙ ap (λ x. x ++ P .entries s′) (sym (append-nil (outs h))))
-  take-first (b ∷ es) h s′ a k e i =
-      subst (λ x. First-in-first-out (event Take x ∷ h) (P .entries s′)) (sym e)
-      (append-nil (ins h) ∙ k ∙ sym (append-assoc (outs h) (b ∷ []) es) ∙ ap (λ x. (outs h ++ b ∷ []) ++ x) (sym i))
-
-  fifo-more : (h : List Event) (s s′ : S) (o : Request) (a : Answer) → First-in-first-out h (P .entries s) → Obeys P s o a s′ → First-in-first-out (event o a ∷ h) (P .entries s′)
-  fifo-more h s s′ (Put b m) a k y = put-last b m (accepts b (P .entries s) (P .places s)) h s s′ a k (y .0) (y .1)
-  fifo-more h s s′ Take a k y = take-first (P .entries s) h s′ a k (y .0) (y .1)
+  fifo-by : (h : List Event) (e : Event) (s s′ : S) → First-in-first-out h (P .entries s) → Happens P s s′ e → First-in-first-out (e ∷ h) (P .entries s′)
+  fifo-by h e s s′ k (goes-in b m t i) = fifo-moved h (event (Put b m) Accepted) (P .entries s) (P .entries s′) k (sym (i ∙ last s b m))
+  fifo-by h e s s′ k (stays-out b m t i) = fifo-moved h (event (Put b m) Refused) (P .entries s) (P .entries s′) k (append-nil (P .entries s) ∙ sym i)
+  fifo-by h e s s′ k (comes-out b es q i) = fifo-moved h (event Take (Gave b)) (P .entries s) (P .entries s′) k (append-nil (P .entries s) ∙ q ∙ ap (λ x. b ∷ x) (sym i))
+  fifo-by h e s s′ k (none-there q i) = fifo-moved h (event Take Empty) (P .entries s) (P .entries s′) k (append-nil (P .entries s) ∙ q ∙ sym i)
 
   pub fifo : (start s : S) (h : List Event) → P .entries start ≡ [] → Ran P start h s → First-in-first-out h (P .entries s)
-  fifo start s h e none = sym e
-  fifo start s h e (more {h = h₀} {s = s₀} o a r y) = fifo-more h₀ s₀ s o a (fifo start s₀ h₀ e r) y
+  fifo start s h e ran =
+      along P start (λ l x. First-in-first-out l (P .entries x)) (sym e) (λ l x x′ r a k y. fifo-by l (event r a) x x′ k (happens P x x′ r a y)) h s ran
 
 -- a history in two parts
 times-in-order : (give : Event → List ℕ) (k : ℕ) (new old : List Event) → times k (in-order give (new ++ old)) ≡ times k (in-order give new) + times k (in-order give old)
@@ -102,32 +88,18 @@ module _ {S : Type 0} (P : Ghosts S) (top : (s : S) (b : ℕ) (m : Bool) → P .
   abbrev Lifo : List Event → S → Type 0
   Lifo h s = Last-in-first-out h × Piled (P .entries s) h
 
-  put-first : (b : ℕ) (m t : Bool) (h : List Event) (s s′ : S) (a : Answer) → Lifo h s
-      → a ≡ cond t Accepted Refused → P .entries s′ ≡ cond t (P .after s b m) (P .entries s) → Lifo (event (Put b m) a ∷ h) s′
-  put-first b m true h s s′ a k e i =
-      subst (λ x. Lifo (event (Put b m) x ∷ h) s′) (sym e) (
-        (tt, k .0),
-        subst (λ es. Piled es (event (Put b m) Accepted ∷ h)) (sym (i ∙ top s b m))
-            (record { mark = m; since = []; older = h; put = refl; settled = λ c. refl }, k .1),
-      )
-  put-first b m false h s s′ a k e i =
-      subst (λ x. Lifo (event (Put b m) x ∷ h) s′) (sym e)
+  lifo-by : (h : List Event) (e : Event) (s s′ : S) → Lifo h s → Happens P s s′ e → Lifo (e ∷ h) s′
+  lifo-by h e s s′ k (goes-in b m t i) = (
+    (tt, k .0),
+    subst (λ es. Piled es (event (Put b m) Accepted ∷ h)) (sym (i ∙ top s b m)) (record { mark = m; since = []; older = h; put = refl; settled = λ c. refl }, k .1),
+  )
+  lifo-by h e s s′ k (stays-out b m t i) =
       ((tt, k .0), subst (λ es. Piled es (event (Put b m) Refused ∷ h)) (sym i) (aside (P .entries s) (event (Put b m) Refused) h refl refl (k .1)))
-
-  take-last : (es : List ℕ) (h : List Event) (s′ : S) (a : Answer) → Last-in-first-out h → Piled es h
-      → a ≡ given (first es) → P .entries s′ ≡ drop 1 es → Lifo (event Take a ∷ h) s′
-  take-last [] h s′ a k p e i =
-      subst (λ x. Lifo (event Take x ∷ h) s′) (sym e) ((tt, k), subst (λ es. Piled es (event Take Empty ∷ h)) (sym i) tt)
-  take-last (b ∷ es) h s′ a k p e i =
-      subst (λ x. Lifo (event Take x ∷ h) s′) (sym e) ((p .0, k), subst (λ es. Piled es (event Take (Gave b) ∷ h)) (sym i) (taken b es h p))
-
-  lifo-more : (h : List Event) (s s′ : S) (o : Request) (a : Answer) → Lifo h s → Obeys P s o a s′ → Lifo (event o a ∷ h) s′
-  lifo-more h s s′ (Put b m) a k y = put-first b m (accepts b (P .entries s) (P .places s)) h s s′ a k (y .0) (y .1)
-  lifo-more h s s′ Take a k y = take-last (P .entries s) h s′ a (k .0) (k .1) (y .0) (y .1)
-
-  piles : (start s : S) (h : List Event) → P .entries start ≡ [] → Ran P start h s → Lifo h s
-  piles start s h e none = (tt, subst (λ es. Piled es []) (sym e) tt)
-  piles start s h e (more {h = h₀} {s = s₀} o a r y) = lifo-more h₀ s₀ s o a (piles start s₀ h₀ e r) y
+  lifo-by h e s s′ k (comes-out b es q i) =
+      let p = subst (λ x. Piled x h) q (k .1) in
+      ((p .0, k .0), subst (λ x. Piled x (event Take (Gave b) ∷ h)) (sym i) (taken b es h p))
+  lifo-by h e s s′ k (none-there q i) = ((tt, k .0), subst (λ x. Piled x (event Take Empty ∷ h)) (sym i) tt)
 
   pub lifo : (start s : S) (h : List Event) → P .entries start ≡ [] → Ran P start h s → Last-in-first-out h
-  lifo start s h e r = piles start s h e r .0
+  lifo start s h e ran =
+      along P start Lifo (tt, subst (λ es. Piled es []) (sym e) tt) (λ l x x′ r a k y. lifo-by l (event r a) x x′ k (happens P x x′ r a y)) h s ran .0

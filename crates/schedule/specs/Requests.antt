@@ -1,5 +1,5 @@
 -- What a list of requests does, for every policy. P gives a policy's meaning: its entries, places, what a put leaves, and agreement.
-use Prim.Native.Nat.{ℕ, _+_, _≤_}
+use Prim.Native.Nat.{ℕ, _+_, _≤_, _<_}
 use mathlib.Core.Path.{_≡_}
 use mathlib.Core.Bool.{true, false, cond, not, _&&_}
 use mathlib.Core.List.{List, [], _∷_}
@@ -45,13 +45,13 @@ pub data Ran {S : Type 0} (P : Ghosts S) (start : S) : List Event → S → Type
   more : {h : List Event} {s s′ : S} (r : Request) (a : Answer) → Ran P start h s → Obeys P s r a s′ → Ran P start (event r a ∷ h) s′
 
 -- Each answer follows from the history before it: a put is accepted exactly if the number is below 64 and not inside,
--- and fewer numbers are inside than there are places; a take gives a number that is inside, and is Empty only if none is.
+-- and fewer numbers are held than there are places; a take gives a number that is inside, and is Empty exactly if none is held.
 abbrev pub Ruled : ℕ → List Event → Event → Type 0
 Ruled places before (event (Put b m) a) =
     a ≡ cond (ltb b 64 && (not (inside b before) && ltb (held before) places)) Accepted Refused
 Ruled places before (event Take Accepted) = ⊥
 Ruled places before (event Take Refused) = ⊥
-Ruled places before (event Take (Gave b)) = inside b before ≡ true
+Ruled places before (event Take (Gave b)) = (inside b before ≡ true) × (0 < held before)
 Ruled places before (event Take Empty) = held before ≡ 0
 
 -- What goes in comes out once.

@@ -9,7 +9,8 @@ use Rattle.schedule.specs.Entries.{first}
 use Rattle.schedule.specs.History.{history}
 use Rattle.schedule.specs.Requests.{Ran, none}
 use Rattle.schedule.proofs.Entries.{nothing-first}
-use Rattle.schedule.proofs.Once.{ran-more, once, unrefused}
+use Rattle.schedule.proofs.Once.{once}
+use Rattle.schedule.proofs.Serving.{ran-more, unrefused}
 use Rattle.schedule.proofs.requests.serve.Needs as need
 
 pub loop-request-holds : need.loop-request-holds
