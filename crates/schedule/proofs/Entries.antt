@@ -33,7 +33,7 @@ below_push b (y ∷ ys) h k =
     let ih : below_64 ys ≡ true → below_64 (ys ++ b ∷ []) ≡ true = below_push b ys h in grind (arith, nat_tests)
 
 -- what `contains` says of a slice
-pub is_in_slice : (b : ℕ) (xs : List ℕ) (r : Bool) → IsAnyAnswer (λ y t. Decides t (y ≡ b)) xs r → r ≡ is_in b xs
+pub is_in_slice : (b : ℕ) (xs : List ℕ) (r : Bool) → IsAnyAnswer (λ y t. eqb y b ≡ t) xs r → r ≡ is_in b xs
 is_in_slice b xs r h =
     same_from_decides r (is_in b xs) (contains_decides eqb Decides-eqb xs b r h)
     (Decides-by_or (λ x. eqb x b) (λ x. x ≡ b) (is_in b) (λ x. Decides-eqb x b) refl (λ _ _. refl) xs)

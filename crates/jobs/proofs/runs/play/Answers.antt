@@ -14,7 +14,7 @@ returns-in-Ready g c = (
 pub loop-i-preserved : goal.loop-i-preserved
 loop-i-preserved g c =
     through_more g.F.Future.step c.args.future.now c.loop-i.future c.args.words.now c.loop-i.i c.loop-i-test.true c.loop-i.invariant
-    ∙ ap after_step (pending_step _ _ c.in-default.ensures)
+    ∙ ap after_step (pending_step _ _ c.in_default.ensures)
 
 pub returns : goal.returns
 returns g c = (

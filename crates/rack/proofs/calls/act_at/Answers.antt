@@ -6,15 +6,15 @@ use Rattle.rack.specs.Racks.{views}
 use Rattle.rack.proofs.Steps.{act_refused, act_settled, refused_so}
 use Rattle.rack.proofs.calls.act_at.Goals as goal
 
-pub returns-in-err-find : goal.returns-in-err-find
-returns-in-err-find g c =
-    let p = err_from_is_err_and c.from-residual.result c.from-residual.ensures.1 in
-    rw (p.1, p.2) (act_refused g.S.Schedule g.F.Future.step c.args.policy.now (views c.args.bays.now) c.args.bay c.args.act c.in-err-find.field-0.0
-    (sym c.find.ensures.value ∙ ap found c.in-err-find.was))
+pub returns-in_err-find : goal.returns-in_err-find
+returns-in_err-find g c =
+    let p = err_from_is_err_and c.from_residual.result c.from_residual.ensures.1 in
+    rw (p.1, p.2) (act_refused g.S.Schedule g.F.Future.step c.args.policy.now (views c.args.bays.now) c.args.bay c.args.act c.in_err-find.field-0.0
+    (sym c.find.ensures.value ∙ ap found c.in_err-find.was))
 
-pub returns-in-err-moved : goal.returns-in-err-moved
-returns-in-err-moved g c =
-    let p = err_from_is_err_and c.from-residual-in-err-moved.result c.from-residual-in-err-moved.ensures.1 in
+pub returns-in_err-moved : goal.returns-in_err-moved
+returns-in_err-moved g c =
+    let p = err_from_is_err_and c.from_residual-in_err-moved.result c.from_residual-in_err-moved.ensures.1 in
     rw (p.1, p.2) (act_settled g.S.Schedule g.F.Future.step c.args.policy.now c.args.policy.now (views c.args.bays.now) (views c.args.bays.now) c.args.bay c.args.act (cell_of c.in-Occupied.cell) _ _
-    (sym c.in-ok-find.ensures.value ∙ ap (λ x. Ok (bay_of x)) c.in-Occupied.is) (sym c.act.ensures ∙ ap move_of c.in-err-moved.was)
-    (refused_so g.S.Schedule c.args.policy.now _ (views c.args.bays.now) c.in-err-moved.field-0.0 refl))
+    (sym c.in_ok-find.ensures.value ∙ ap (λ x. Ok (bay_of x)) c.in-Occupied.is) (sym c.act.ensures ∙ ap move_of c.in_err-moved.was)
+    (refused_so g.S.Schedule c.args.policy.now _ (views c.args.bays.now) c.in_err-moved.field-0.0 refl))

@@ -3,7 +3,7 @@ use Rattle.schedule.specs.Entries.{accepts}
 use Rattle.std.proofs.lemmas.Bool.{cond-true}
 use Rattle.rack.proofs.Steps.{settled_kept, settled_put, settled_refused}
 use Rattle.rack.proofs.calls.settle.Goals as goal
-use Rattle.rack.proofs.calls.settle.Goals.{in-Some+else-not-put, in-default}
+use Rattle.rack.proofs.calls.settle.Goals.{in-Some+else-not-put, in_default}
 
 pub returns-then-not-put : goal.returns-then-not-put
 returns-then-not-put g c =
@@ -20,5 +20,5 @@ returns g c =
           let ok = sym w.put.ensures.value ∙ w.if-not-put.false in
           rw w.policy-is (settled_put P s w.put.new.self bs c.args.bay c.args.moved.bay c.args.moved.report w.in-Some.mark w.in-Some.is ok
           (w.put.ensures.items ∙ cond-true _ _ _ ok, w.put.ensures.room, w.put.ensures.agrees))
-      | in-default w ↦ rw w.policy-is (settled_kept P s bs c.args.bay c.args.moved.bay c.args.moved.report w.in-default.is)
+      | in_default w ↦ rw w.policy-is (settled_kept P s bs c.args.bay c.args.moved.bay c.args.moved.report w.in_default.is)
     ]

@@ -5,8 +5,8 @@ use Rattle.rack.specs.Law.{standing_in}
 use Rattle.rack.proofs.Pricing.{standing_more}
 use Rattle.rack.proofs.price.standing.Goals as goal
 
-pub overflow-add-sum : goal.overflow-add-sum
-overflow-add-sum g c = let a = c.stands-sum.ensures.small in omega arith
+pub overflow_add-sum : goal.overflow_add-sum
+overflow_add-sum g c = let a = c.stands-sum.ensures.small in omega arith
 
 pub loop-i-preserved : goal.loop-i-preserved
 loop-i-preserved g c =

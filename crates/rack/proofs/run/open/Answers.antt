@@ -12,7 +12,7 @@ returns-then-held g c =
     let P = g.S.Schedule in
     let bs = c.args.bays.now in
     let p = c.args.policy.now in
-    let held : c.is-some-held.result ≡ is_some (first (P.entries p)) = c.is-some-held.ensures ∙ ap is_some c.peek.ensures in
+    let held : c.is_some-held.result ≡ is_some (first (P.entries p)) = c.is_some-held.ensures ∙ ap is_some c.peek.ensures in
     let why : (is_some (first (P.entries p)) ≡ true) ⊎ (P.places p < length bs) = elim c.then-held.either [ inl e ↦ inl (sym held ∙ e) | inr q ↦ inr (let z = q.1 in let y = c.places-places.ensures in omega arith) ] in
     subst (λ u. Opens (views bs) u (Err PolicyUnfit) (views bs)) (sym (unfit_policy (length bs) (P.entries p) (P.places p) c.if-many-eq0.false c.if-many-gt64.false why)) (refl, refl)
 
@@ -29,7 +29,7 @@ returns g c =
     let bs = c.args.bays.now in
     let bs' = c.loop-bay.bays in
     let p = c.args.policy.now in
-    let bare : is_some (first (P.entries p)) ≡ false = sym (c.is-some-held.ensures ∙ ap is_some c.peek.ensures) ∙ c.if-held.false in
+    let bare : is_some (first (P.entries p)) ≡ false = sym (c.is_some-held.ensures ∙ ap is_some c.peek.ensures) ∙ c.if-held.false in
     let y = c.places-places.ensures in
     let long = length-map bs bay_of in
     let same : length bs' ≡ length bs = omega arith in

@@ -18,7 +18,7 @@ pub loop-c-init : goal.loop-c-init
 loop-c-init g c =
     let bs = c.args.bays.now in
     let bs' = c.open.new.bays in
-    let o = opens_ok (views bs) (views bs') _ c.in-default.field-0 c.in-default.ensures in
+    let o = opens_ok (views bs) (views bs') _ c.in_default.field-0 c.in_default.ensures in
     let long : length (views bs) ≡ length bs' = sym (length-replicate (length (views bs)) None) ∙ ap length (sym o.1) ∙ length-map bs' bay_of in
     let y = c.capacity.ensures in
     let z = c.clear.ensures.capacity in
@@ -32,8 +32,8 @@ loop-c-preserved g c =
       omega arith,
       omega arith,
       omega arith,
-      ran_more g.F.Future.step g.S.Schedule _ _ c.args.calls.now (vec_items v) (vec_items c.push-reserved.new.self) i c.c-item.result c.call-said.result (views c.loop-c.bays) (views c.call-said.new.bays) c.loop-c.policy c.call-said.new.policy
-          c.loop-c-test.true c.c-item.is n c.push-reserved.ensures.items c.loop-c.invariant.3 c.call-said.ensures,
+      ran_more g.F.Future.step g.S.Schedule _ _ c.args.calls.now (vec_items v) (vec_items c.push_reserved.new.self) i c.c-item.result c.call-said.result (views c.loop-c.bays) (views c.call-said.new.bays) c.loop-c.policy c.call-said.new.policy
+          c.loop-c-test.true c.c-item.is n c.push_reserved.ensures.items c.loop-c.invariant.3 c.call-said.ensures,
     )
 
 pub returns : goal.returns
@@ -44,7 +44,7 @@ returns g c =
     let s = c.args.policy.now in
     let v = c.loop-c.reports in
     let calls = c.args.calls.now in
-    let o = opens_ok (views bs) (views bs') _ c.in-default.field-0 c.in-default.ensures in
+    let o = opens_ok (views bs) (views bs') _ c.in_default.field-0 c.in_default.ensures in
     let long : length (views bs) ≡ length bs' = sym (length-replicate (length (views bs)) None) ∙ ap length (sym o.1) ∙ length-map bs' bay_of in
     let same : length (views bs) ≡ length bs = length-map bs bay_of in
     let f : Fit (length bs) (P.entries s) (P.places s) = fit_from (length bs) (P.entries s) (P.places s) o.0 in

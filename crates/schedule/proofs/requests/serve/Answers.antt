@@ -18,8 +18,8 @@ loop-request-preserved g c =
       omega arith,
       omega arith,
       omega arith,
-      ran_more g.S.Schedule c.args.policy.now c.args.requests.now c.loop-request.request-index _ (vec_items v) (vec_items c.push-reserved.new.self) c.obey-answer.result
-          c.loop-request.policy c.obey-answer.new.policy c.loop-request-test.true n c.push-reserved.ensures.items c.loop-request.invariant.3 c.obey-answer.ensures,
+      ran_more g.S.Schedule c.args.policy.now c.args.requests.now c.loop-request.request-index _ (vec_items v) (vec_items c.push_reserved.new.self) c.obey-answer.result
+          c.loop-request.policy c.obey-answer.new.policy c.loop-request-test.true n c.push_reserved.ensures.items c.loop-request.invariant.3 c.obey-answer.ensures,
     )
 
 pub returns : goal.returns
@@ -29,7 +29,7 @@ returns g c =
     let v = c.loop-request.answers in
     let requests = c.args.requests.now in
     let answered : length (vec_items v) ≡ length requests = sym v.ok.0 ∙ omega arith in
-    let nothing : is_some (first (P.entries s)) ≡ false = sym (ap is_some c.peek.ensures) ∙ sym c.if-is-some.ensures in
+    let nothing : is_some (first (P.entries s)) ≡ false = sym (ap is_some c.peek.ensures) ∙ sym c.if-is_some.ensures in
     let empty = nothing_first (P.entries s) nothing in
     let ran : Ran P s (history requests (vec_items v)) c.loop-request.policy =
     subst (λ l. Ran P s (history l (vec_items v)) c.loop-request.policy) (take_all c.loop-request.request-index requests c.loop-request-test.false) c.loop-request.invariant.3 in

@@ -9,13 +9,13 @@ use Rattle.cell.proofs.Doing.{act_keeps}
 use Rattle.cell.proofs.act.Cell+F+F+Output.act.Goals as goal
 
 -- a cell that a call leaves keeps what every cell keeps
-pub invariant-of-bay : goal.invariant-of-bay
-invariant-of-bay g c =
+pub invariant_of-bay : goal.invariant_of-bay
+invariant_of-bay g c =
     let s = c.args.self in
     let x = c.turn.result in
-    let k = act_keeps g.F.Future.step c.args.act (cell_of s) (s.few, s.counted, s.agreed) (outcome_of x) c.turn.ensures (sym c.in-default.ensures) c.if-report.false in
+    let k = act_keeps g.F.Future.step c.args.act (cell_of s) (s.few, s.counted, s.agreed) (outcome_of x) c.turn.ensures (sym c.in_default.ensures) c.if-report.false in
     let e : c.advance.new.self ≡ advanced s.register (act_kind c.args.act) (is_some x.report.put) (has_ended x.report.answer) =
-    c.advance.ensures ∙ ap (λ a. advanced s.register a c.is-some.result c.has-ended.result) c.kind.ensures
-    ∙ ap (λ p. advanced s.register (act_kind c.args.act) p c.has-ended.result) c.is-some.ensures
-    ∙ ap (advanced s.register (act_kind c.args.act) (is_some x.report.put)) c.has-ended.ensures in
+    c.advance.ensures ∙ ap (λ a. advanced s.register a c.is_some.result c.has_ended.result) c.kind.ensures
+    ∙ ap (λ p. advanced s.register (act_kind c.args.act) p c.has_ended.result) c.is_some.ensures
+    ∙ ap (advanced s.register (act_kind c.args.act) (is_some x.report.put)) c.has_ended.ensures in
     subst (λ r. (r.wakers ≤ 65535) × (((read x.task.header.state).count ≡ r.wakers + held r.stage) × ((agrees (raw_of x.task) r ≡ true) × Unit {0}))) (sym e) (k.0, (k.1, (k.2, tt)))

@@ -3,15 +3,15 @@ use Rattle.std.proofs.lemmas.Bool.{lt-ltb}
 use Rattle.schedule.proofs.Entries.{accepted, distinct_push, below_push}
 use Rattle.queues.proofs.line.Line.push_back.Goals as goal
 
-pub invariant-of-self : goal.invariant-of-self
-invariant-of-self g c =
+pub invariant_of-self : goal.invariant_of-self
+invariant_of-self g c =
     let b = c.args.bay in
     let s = c.args.self.now in
     let es = deque_items s.bays in
     let a = accepted b es s.places c.requires in (
-      rw c.push-back-reserved.ensures.items (distinct_push b es a.1 s.single),
+      rw c.push_back_reserved.ensures.items (distinct_push b es a.1 s.single),
       (
-        rw c.push-back-reserved.ensures.items (below_push b es (lt-ltb b 64 a.0) s.below),
+        rw c.push_back_reserved.ensures.items (below_push b es (lt-ltb b 64 a.0) s.below),
         (omega (arith, a.2, s.bays.ok.0), (omega arith, (omega arith, tt))),
       ),
     )
