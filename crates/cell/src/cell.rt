@@ -6,6 +6,7 @@ ghost use Rattle.cell.specs.Keeps.{held, agrees};
 
 use super::raw::RawTask;
 use super::register::Register;
+use std::alloc::AllocError;
 
 // A task and the register of its handles. What every cell keeps is in its type.
 #[derive(Drop)]
@@ -19,12 +20,24 @@ pub struct Cell<F, O> {
     ghost agreed: { agrees (raw_of task) register ≡ true },
 }
 
+impl<F: Copy, O: Copy> Clone for Cell<F, O> {
+    fn clone(&self) -> Result<Cell<F, O>, AllocError> {
+        Ok(*self)
+    }
+}
+
 impl<F: Copy, O: Copy> Copy for Cell<F, O> {}
 
 #[derive(Drop)]
 pub enum Bay<F, O> {
     Vacant,
     Occupied(Cell<F, O>),
+}
+
+impl<F: Copy, O: Copy> Clone for Bay<F, O> {
+    fn clone(&self) -> Result<Bay<F, O>, AllocError> {
+        Ok(*self)
+    }
 }
 
 impl<F: Copy, O: Copy> Copy for Bay<F, O> {}

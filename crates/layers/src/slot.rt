@@ -2,6 +2,7 @@
 ghost use Rattle.std.specs.Prelude.{◌≡◌, true, false, None};
 ghost use Rattle.schedule.specs.Entries.{accepts};
 ghost use Rattle.layers.specs.Slots.{slot_entries, slot_places, slot_agrees, lowered, slot_after};
+ghost use Rattle.layers.specs.Kept.{slot_keeps};
 ghost use Rattle.std.proofs.Common.{rules};
 
 use schedule::Schedule;
@@ -77,6 +78,8 @@ impl<P: Schedule> Schedule for Slot<P> {
     ghost below = { Prim.search rules };
 
     ghost fits = { Prim.search rules };
+
+    ghost keeps = { slot_keeps _ P.keeps };
 
     ghost most = { Prim.search rules };
 

@@ -1,2 +1,2 @@
 pub mod Lines
-pub mod LinesLemmas
+pub mod Kept

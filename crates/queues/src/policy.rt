@@ -2,8 +2,8 @@
 ghost use Rattle.std.specs.Prelude.{◌≡◌, min, true, false, [], IfOk};
 ghost use Rattle.schedule.specs.Entries.{accepts};
 ghost use Rattle.queues.specs.Lines.{in_line, line_places, joined};
-ghost use Rattle.queues.specs.LinesLemmas.{joined_keeps};
-ghost use Rattle.std.proofs.Common.{rules, arith};
+ghost use Rattle.queues.specs.Kept.{joined_keeps};
+ghost use Rattle.std.proofs.Common.{rules};
 
 use super::line::{End, Line};
 use schedule::Schedule;
@@ -58,17 +58,17 @@ impl<E: End> Schedule for Line<E> {
     // what there is to agree on stands in the line's type
     ghost agrees = { λ _. Unit {0} };
 
-    ghost fresh = { first_of (Prim.search rules, Prim.grind (arith, Self.row.coded.inj)) };
+    ghost fresh = { Prim.search rules };
 
-    ghost single = { first_of (Prim.search rules, Prim.grind (arith, Self.row.coded.inj)) };
+    ghost single = { Prim.search rules };
 
-    ghost below = { first_of (Prim.search rules, Prim.grind (arith, Self.row.coded.inj)) };
+    ghost below = { Prim.search rules };
 
-    ghost fits = { first_of (Prim.search rules, Prim.grind (arith, Self.row.coded.inj)) };
+    ghost fits = { Prim.search rules };
 
     ghost keeps = { λ l b m _. joined_keeps E.End.back (in_line l) b };
 
-    ghost most = { first_of (Prim.search rules, Prim.grind (arith, Self.row.coded.inj)) };
+    ghost most = { Prim.search rules };
 
     fn put(&mut self, bay: u32, _woken_while_running: bool) -> bool {
         if !self.admits(bay) {

@@ -2,7 +2,7 @@
 use Rattle.std.proofs.Common.{◌≡◌, ℕ, ◌+◌, ◌≤◌, Bool, true, false, cond, not, ◌&&◌, eqb, ltb, List, [], ◌∷◌, ◌++◌, refl, ap, arith}
 use Rattle.std.proofs.lemmas.Bool.Decides.{nat_tests}
 use Rattle.std.proofs.lemmas.List.Sums.{sum_by-cons, sum_by-append}
-use Rattle.std.proofs.lemmas.List.Sorted.{sum_by-IsPermutation}
+use Rattle.std.proofs.lemmas.List.Sorted.{sum_by-IsPermutation, IsPermutation-swap}
 use Rattle.std.specs.List.Sorted.{IsPermutation}
 use Rattle.schedule.specs.Entries.{is_in, distinct}
 use Rattle.schedule.specs.History.{times}
@@ -35,3 +35,7 @@ distinct_times b (x ∷ xs) h =
         let u : times x xs ≡ times b xs = ap (λ k. times k xs) s in
         grind (arith, nat_tests)
     by_test false t e i j h = grind (arith, nat_tests)
+
+-- two at the front change places
+pub swapped : (b f : ℕ) (es : List ℕ) → IsPermutation (b ∷ f ∷ es) (f ∷ b ∷ es)
+swapped b f es = IsPermutation-swap (b ∷ f ∷ es) (f ∷ b ∷ es) 0 1 (omega arith) (omega arith) refl

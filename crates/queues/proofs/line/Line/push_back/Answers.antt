@@ -8,10 +8,11 @@ invariant_of-self g c =
     let b = c.args.bay in
     let s = c.args.self.now in
     let es = deque_items s.bays in
-    let a = accepted b es s.places c.requires in (
-      rw c.push_back_reserved.ensures.items (distinct_push b es a.1 s.single),
-      (
-        rw c.push_back_reserved.ensures.items (below_push b es (lt-ltb b 64 a.0) s.below),
-        (omega (arith, a.2, s.bays.ok.0), (omega arith, (omega arith, tt))),
-      ),
-    )
+    let a = accepted b es s.places c.requires in
+    record {
+      single = rw c.push_back_reserved.ensures.items (distinct_push b es a.1 s.single);
+      below = rw c.push_back_reserved.ensures.items (below_push b es (lt-ltb b 64 a.0) s.below);
+      fits = omega (arith, a.2, s.bays.ok.0);
+      reserved = omega arith;
+      most = omega arith;
+    }

@@ -1,6 +1,6 @@
 use Rattle.std.proofs.Common.{deque_items, ◌∙◌}
 use Rattle.schedule.proofs.Entries.{is_in_slice}
-use Rattle.queues.specs.LinesLemmas.{in_parts}
+use Rattle.queues.proofs.Lines.{in_parts}
 use Rattle.queues.proofs.policy.LineSchedule.holds.Goals as goal
 
 pub returns-then-contains : goal.returns-then-contains

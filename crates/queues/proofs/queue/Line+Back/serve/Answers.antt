@@ -1,6 +1,6 @@
 use Rattle.std.proofs.Common.{vec_items}
 use Rattle.std.proofs.lemmas.Result.{IfOk-weaker}
-use Rattle.queues.specs.LinesLemmas.{queue_fifo}
+use Rattle.queues.proofs.Lines.{queue_fifo}
 use Rattle.queues.proofs.queue.Line+Back.serve.Goals as goal
 
 pub returns : goal.returns

@@ -1,6 +1,6 @@
 use Rattle.std.proofs.Common.{vec_items}
 use Rattle.std.proofs.lemmas.Result.{IfOk-weaker}
-use Rattle.queues.specs.LinesLemmas.{stack_lifo}
+use Rattle.queues.proofs.Lines.{stack_lifo}
 use Rattle.queues.proofs.stack.Line+Front.serve.Goals as goal
 
 pub returns : goal.returns

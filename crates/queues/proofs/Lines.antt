@@ -2,8 +2,6 @@
 use Rattle.std.specs.Prelude.{◌≡◌, ℕ, Bool, true, false, ◌||◌, List, ◌∷◌, ◌++◌, refl}
 use Rattle.std.proofs.Common.{sym, ◌∙◌, ap, arith}
 use Rattle.std.proofs.lemmas.Bool.Decides.{nat_tests}
-use Rattle.std.proofs.lemmas.List.Sorted.{IsPermutation-to_front, IsPermutation-sym, IsPermutation-refl}
-use Rattle.std.specs.List.Sorted.{IsPermutation}
 use Rattle.schedule.specs.declared.requests.Request.{Request}
 use Rattle.schedule.specs.declared.requests.Answer.{Answer}
 use Rattle.schedule.specs.Entries.{is_in}
@@ -12,10 +10,11 @@ use Rattle.schedule.specs.Requests.{Serves}
 use Rattle.schedule.specs.Turns.{FirstInFirstOut, LastInFirstOut}
 use Rattle.schedule.proofs.Entries.{is_in_append}
 use Rattle.schedule.proofs.Turns.{fifo, lifo}
+use Rattle.queues.specs.declared.line.End
 use Rattle.queues.specs.declared.line.Line.{Line}
 use Rattle.queues.specs.declared.line.Back.{Back}
 use Rattle.queues.specs.declared.line.Front.{Front}
-use Rattle.queues.specs.Lines.{in_line, joined, queue_meaning, stack_meaning}
+use Rattle.queues.specs.Lines.{in_line, queue_meaning, stack_meaning}
 
 -- a number is in the line if it is in the front part, or else in the back part
 pub in_parts : (b : ℕ) (front back line : List ℕ) (p : Bool) → front ++ back ≡ line → p ≡ is_in b front
@@ -24,13 +23,8 @@ in_parts b front back line p e f =
     let w : is_in b line ≡ (is_in b front || is_in b back) = ap (is_in b) (sym e) ∙ is_in_append b front back in
     (λ t. grind (arith, nat_tests), λ t. grind (arith, nat_tests))
 
--- a line that was joined has the bays it had, and the new one
-pub joined_keeps : (back : Bool) (es : List ℕ) (b : ℕ) → IsPermutation (b ∷ es) (joined back es b)
-joined_keeps true es b = IsPermutation-sym _ _ (IsPermutation-to_front es b)
-joined_keeps false es b = IsPermutation-refl (b ∷ es)
-
-pub queue_fifo : (q q' : Line Back) (requests : List Request) (answers : List Answer) → Serves queue_meaning q requests answers q' → FirstInFirstOut (history requests answers) (in_line q')
+pub queue_fifo : {e : End.Ghosts Back} (q q' : Line Back e) (requests : List Request) (answers : List Answer) → Serves queue_meaning q requests answers q' → FirstInFirstOut (history requests answers) (in_line q')
 queue_fifo q q' requests answers s = fifo queue_meaning (λ _ _ _. refl) q q' (history requests answers) s.from_empty s.in_turn
 
-pub stack_lifo : (t t' : Line Front) (requests : List Request) (answers : List Answer) → Serves stack_meaning t requests answers t' → LastInFirstOut (history requests answers)
+pub stack_lifo : {e : End.Ghosts Front} (t t' : Line Front e) (requests : List Request) (answers : List Answer) → Serves stack_meaning t requests answers t' → LastInFirstOut (history requests answers)
 stack_lifo t t' requests answers s = lifo stack_meaning (λ _ _ _. refl) t t' (history requests answers) s.from_empty s.in_turn
