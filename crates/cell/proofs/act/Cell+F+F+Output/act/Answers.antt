@@ -1,5 +1,6 @@
 use Rattle.std.proofs.Common.{◌≡◌, ◌+◌, ◌≤◌, true, is_some, sym, ap, ◌∙◌, subst}
 use Rattle.word.specs.Words.{read}
+use Rattle.cell.specs.declared.register.Register.{Register}
 use Rattle.cell.specs.Keeps.{held, agrees}
 use Rattle.cell.specs.Registers.{advanced}
 use Rattle.cell.specs.Steps.{raw_of, outcome_of}
@@ -18,4 +19,5 @@ invariant_of-bay g c =
     c.advance.ensures ∙ ap (λ a. advanced s.register a c.is_some.result c.has_ended.result) c.kind.ensures
     ∙ ap (λ p. advanced s.register (act_kind c.args.act) p c.has_ended.result) c.is_some.ensures
     ∙ ap (advanced s.register (act_kind c.args.act) (is_some x.report.put)) c.has_ended.ensures in
-    subst (λ r. (r.wakers ≤ 65535) × (((read x.task.header.state).count ≡ r.wakers + held r.stage) × ((agrees (raw_of x.task) r ≡ true) × Unit {0}))) (sym e) (k.0, (k.1, (k.2, tt)))
+    let t = subst (λ (r : Register). (r.wakers ≤ 65535) × ((read x.task.header.state).count ≡ r.wakers + held r.stage) × (agrees (raw_of x.task) r ≡ true)) (sym e) k in
+    record { few = t.0; counted = t.1; agreed = t.2 }
