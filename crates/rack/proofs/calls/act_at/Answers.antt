@@ -12,9 +12,9 @@ returns-in_err-find g c =
     rw (p.1, p.2) (act_refused g.S.Schedule g.F.Future.step c.args.policy.now (views c.args.bays.now) c.args.bay c.args.act c.in_err-find.field-0.0
     (sym c.find.ensures.value ∙ ap found c.in_err-find.was))
 
-pub returns-in_err-moved : goal.returns-in_err-moved
-returns-in_err-moved g c =
-    let p = err_from_is_err_and c.from_residual-in_err-moved.result c.from_residual-in_err-moved.ensures.1 in
+pub returns-in_err-moved-in-Occupied : goal.returns-in_err-moved-in-Occupied
+returns-in_err-moved-in-Occupied g c =
+    let p = err_from_is_err_and c.from_residual-in_err-moved-in-Occupied.result c.from_residual-in_err-moved-in-Occupied.ensures.1 in
     rw (p.1, p.2) (act_settled g.S.Schedule g.F.Future.step c.args.policy.now c.args.policy.now (views c.args.bays.now) (views c.args.bays.now) c.args.bay c.args.act (cell_of c.in-Occupied.cell) _ _
-    (sym c.in_ok-find.ensures.value ∙ ap (λ x. Ok (bay_of x)) c.in-Occupied.is) (sym c.act.ensures ∙ ap move_of c.in_err-moved.was)
-    (refused_so g.S.Schedule c.args.policy.now _ (views c.args.bays.now) c.in_err-moved.field-0.0 refl))
+    (sym c.in_ok-find.ensures.value ∙ ap (λ x. Ok (bay_of x)) c.in-Occupied.is) (sym c.act.ensures ∙ ap move_of c.in_err-moved-in-Occupied.was)
+    (refused_so g.S.Schedule c.args.policy.now _ (views c.args.bays.now) c.in_err-moved-in-Occupied.field-0.0 refl))
