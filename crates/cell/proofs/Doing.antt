@@ -1,8 +1,7 @@
 -- What each call does to a cell, phase by phase.
-use Rattle.std.proofs.Common.{◌≡◌, ℕ, ◌+◌, ◌-◌, ◌<◌, ◌≤◌, min, Bool, true, false, cond, not, ◌&&◌, ◌||◌, eqb, ltb, leb, ◌⊎◌, is_some, Some, None, Ok, Err, Option, Result, sym, refl, ap, ◌∙◌, subst, inl, inr, add-zero, zero-add, arith}
-use Rattle.std.proofs.lemmas.Bool.{cases_Bool, cond_both, cond-true, cond-false, and_parts, and_left, and_right, or_right, ne_eqb, eqb-true, eqb-false, leb-false, not-true, not_from_true, not_from_false, false≢true, true≢false}
+use Rattle.std.proofs.Common.{◌≡◌, ℕ, ◌+◌, ◌-◌, ◌<◌, ◌≤◌, min, Bool, true, false, cond, not, ◌&&◌, ◌||◌, eqb, leb, ◌⊎◌, is_some, Some, None, Ok, Err, Option, Result, sym, refl, ap, ◌∙◌, subst, inl, inr, add-zero, zero-add, arith}
+use Rattle.std.proofs.lemmas.Bool.{cases_Bool, cond-true, cond-false, and_parts, and_left, and_right, or_right, ne_eqb, eqb-true, eqb-false, leb-false, not-true, not_from_true, not_from_false, false≢true, true≢false}
 use Rattle.jobs.specs.Step.{Step, pends, gives}
-use Rattle.word.specs.Words.{Word}
 use Rattle.cell.specs.declared.call.Kind.TheVariants as kind
 use Rattle.cell.specs.declared.call.Act.{Act}
 use Rattle.cell.specs.declared.call.Act.TheVariants as act
@@ -12,18 +11,17 @@ use Rattle.cell.specs.declared.register.Register.{Register}
 use Rattle.cell.specs.declared.report.Answer.{Answer}
 use Rattle.cell.specs.declared.report.Answer.TheVariants as answer
 use Rattle.cell.specs.declared.report.Fate.{Fate}
-use Rattle.cell.specs.declared.report.Fate.TheVariants.{Kept, FutureDropped, FutureLost, OutputDropped}
+use Rattle.cell.specs.declared.report.Fate.TheVariants.{Kept, FutureDropped, OutputDropped}
 use Rattle.cell.specs.declared.report.Fault.{Fault}
 use Rattle.cell.specs.declared.report.Fault.TheVariants as fault
 use Rattle.cell.specs.declared.report.Report.{Report}
-use Rattle.cell.specs.declared.raw.Content.{Content}
-use Rattle.cell.specs.declared.raw.Content.TheVariants.{Future, Output, Empty}
+use Rattle.cell.specs.declared.raw.Content.TheVariants.{Empty}
 use Rattle.cell.specs.declared.table.Supply.TheVariants.{OrHeld, OrRunning}
 use Rattle.cell.specs.Table.{act_kind, supplied}
 use Rattle.cell.specs.Registers.{advanced, from}
-use Rattle.cell.specs.Cells.{Head, unheld}
+use Rattle.cell.specs.Cells.{unheld}
 use Rattle.cell.specs.Keeps.{held}
-use Rattle.cell.specs.Steps.{Raw, Outcome, leaves, says, puts, retired, polled, let_rest, registered, notified, parted, drop_task_step, followed, either, wake_by_ref_step, wake_step, drop_waker_step, cancel_step, detach_step, and_then, run_out}
+use Rattle.cell.specs.Steps.{Raw, Outcome, leaves, says, retired, polled, let_rest, registered, notified, parted, drop_task_step, followed, either, wake_by_ref_step, wake_step, drop_waker_step, cancel_step, detach_step, and_then}
 use Rattle.cell.specs.Acts.{Cell, word, Move, Keeps, is_waiting, spawned, moved, turned, barred, carried, acted, has_ended}
 use Rattle.cell.specs.Events.{not_for_policy, waits, weight, whereabouts, delivers, hands_out, takes_back, task_after, polled_with, awake_after, asked_after}
 use Rattle.cell.proofs.Phases.{Phase, idle, hand, wait, begun, pending, ready, done, over, stage_of, content_of, word_at, cell_at, Allowed, Is, is_kept, kept_is}

@@ -1,5 +1,5 @@
 -- What a call does to a cell, in terms of the call and its report.
-use Rattle.std.proofs.Common.{◌≡◌, ℕ, ◌+◌, ◌≤◌, Bool, true, false, cond, not, ◌&&◌, ◌||◌, ◌⊎◌, is_some, Some, None, Ok, Err, Option, Result}
+use Rattle.std.proofs.Common.{◌≡◌, ℕ, ◌+◌, Bool, true, false, not, ◌&&◌, ◌||◌, ◌⊎◌, is_some, Some, None, Ok, Err, Option, Result}
 use Rattle.std.proofs.lemmas.Bool.{cond_both}
 use Rattle.jobs.specs.Step.{Step, pends, gives}
 use Rattle.word.specs.Words.{still_open}

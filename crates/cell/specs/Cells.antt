@@ -1,5 +1,5 @@
 -- A task cell by its parts.
-use Rattle.std.specs.Prelude.{ℕ, Bool, true, false, cond, not, ◌&&◌, Some, None, Option, ◌==◌}
+use Rattle.std.specs.Prelude.{ℕ, Bool, cond, not, ◌&&◌, None, Option, ◌==◌}
 use Rattle.word.specs.State.{awaiter}
 use Rattle.word.specs.Words.{Word, read, clearing, released}
 use Rattle.cell.specs.declared.header.Header.{Header}

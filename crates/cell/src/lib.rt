@@ -1,4 +1,6 @@
 // The task cell: what a bay holds, and what each call does to it.
+#![tactic(auto)]
+
 pub mod act;
 pub mod call;
 pub mod cases;

@@ -1,4 +1,6 @@
 // The calls by handle: tokens that hold a bay number and have to be spent.
+#![tactic(auto)]
+
 pub mod refused;
 pub mod runnable;
 pub mod task;

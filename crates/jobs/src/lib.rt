@@ -1,4 +1,6 @@
 // Futures and jobs: what a tape's transfer is made of.
+#![tactic(auto)]
+
 pub mod countdown;
 pub mod future;
 pub mod runs;

@@ -1,4 +1,6 @@
 // Policies over policies.
+#![tactic(auto)]
+
 pub mod slot;
 
 pub use slot::Slot;

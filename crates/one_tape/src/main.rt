@@ -1,4 +1,6 @@
 // Follows tape 2210 from the delivery desk to its recording.
+#![tactic(auto)]
+
 use jobs::{Future, Job, Poll, Transfer};
 use queues::Queue;
 use schedule::{Answer, Request, Schedule, Unserved};

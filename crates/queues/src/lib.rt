@@ -1,4 +1,6 @@
 // Queue and Stack: one line of bays, which a new bay joins at the back or at the front.
+#![tactic(auto)]
+
 pub mod line;
 pub mod policy;
 pub mod queue;

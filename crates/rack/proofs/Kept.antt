@@ -1,12 +1,12 @@
 -- What every list of calls keeps: the bays in step with their lives, the policy with the bays that wait, and the price list.
-use Rattle.std.proofs.Common.{◌≡◌, ℕ, zero, suc, ◌+◌, ◌<◌, ◌≤◌, Bool, true, false, cond, not, ◌&&◌, ◌||◌, eqb, ltb, leb, ◌⊎◌, List, [], ◌∷◌, length, get_or, drop, set, is_some, Some, None, Ok, Err, Option, Result, sym, refl, ap, ◌∙◌, subst, inl, inr, arith}
+use Rattle.std.proofs.Common.{◌≡◌, ℕ, zero, suc, ◌+◌, ◌<◌, ◌≤◌, Bool, true, false, cond, not, ◌&&◌, ◌||◌, leb, ◌⊎◌, List, [], ◌∷◌, length, get_or, drop, set, is_some, Some, None, Ok, Err, Option, Result, sym, refl, ap, ◌∙◌, subst, inl, inr, arith}
 use Rattle.std.proofs.lemmas.List.{get_or-set_same, get_or-set_other, length-set, get_or_past}
 use Rattle.std.proofs.lemmas.Bool.{cases_eq, cases_lt, cond_both, cond-true, cond-false, eq-eqb, ne_eqb, lt-ltb, le-ltb, leb-false, lt-leb, and_from, and_left, and_right, not_from_true, not_from_false, or_from, false≢true, true≢false}
 use Rattle.std.specs.List.Sorted.{IsPermutation}
 use Rattle.jobs.specs.Step.{Step}
 use Rattle.jobs.specs.Through.{through, standing, finished}
 use Rattle.schedule.specs.declared.Schedule.{Ghosts}
-use Rattle.schedule.specs.Entries.{is_in, distinct, first, accepts}
+use Rattle.schedule.specs.Entries.{first, accepts}
 use Rattle.schedule.specs.History.{times}
 use Rattle.schedule.proofs.Times.{times_cons, times_shuffled, is_in_times}
 use Rattle.cell.specs.declared.call.Act.{Act}
@@ -18,17 +18,17 @@ use Rattle.cell.specs.declared.report.Answer.TheVariants as answer
 use Rattle.cell.specs.declared.report.Fault.{Fault}
 use Rattle.cell.specs.declared.report.Fault.TheVariants as fault
 use Rattle.cell.specs.declared.report.Report.{Report}
-use Rattle.cell.specs.declared.raw.Content.TheVariants.{Future, Output, Empty}
+use Rattle.cell.specs.declared.raw.Content.TheVariants.{Output}
 use Rattle.cell.specs.Steps.{says}
-use Rattle.cell.specs.Acts.{Cell, word, Move, acted, spawned, taken, is_waiting}
-use Rattle.cell.specs.Events.{not_for_policy, waits, delivers, polled_with, weight}
+use Rattle.cell.specs.Acts.{Cell, Move, spawned, is_waiting}
+use Rattle.cell.specs.Events.{not_for_policy, waits, delivers, polled_with}
 use Rattle.cell.proofs.Rows.{Goes, Ends, Does, denied, goes, ends, Follows, HandsOver}
 use Rattle.cell.proofs.Doing.{does, in_hand}
-use Rattle.rack.specs.Racks.{After, Became, Shifted, Stepped, shifted, stays, puts, takes, crowded, located, refusal, settled, spawn_into, act_on, hand_over, waiting_in, take_first, decided}
-use Rattle.rack.specs.History.{Event, event, acted_on, names, concerns, is_spawn, life, runnable, handed_out, taken_back, task_out, alive, future_of, poll_word, words, awake, asked, total}
-use Rattle.rack.specs.Law.{Ran, none, more, Alone, TrueOf, TrueEvent, Each, taken_in, deliveries, discards, drops, losses, in_bay, standing_in, CameOf, Law}
+use Rattle.rack.specs.Racks.{After, Shifted, Stepped, shifted, crowded, located, refusal, settled, spawn_into, act_on, hand_over, waiting_in, take_first, decided}
+use Rattle.rack.specs.History.{Event, event, acted_on, names, concerns, is_spawn, life, runnable, alive, future_of, poll_word, words, asked, total}
+use Rattle.rack.specs.Law.{TrueEvent, Each, taken_in, deliveries, discards, drops, losses, in_bay, standing_in, CameOf}
 use Rattle.rack.proofs.Lives.{Fits, Empties, Meets, fits_on, empties_on, fits_spawn, fits_take, alive_is}
-use Rattle.rack.proofs.Pigeon.{one_at, one_same, one_other, pigeon}
+use Rattle.rack.proofs.Pigeon.{one_same, one_other, pigeon}
 
 abbrev one : Bool → ℕ
 one t = cond t 1 0

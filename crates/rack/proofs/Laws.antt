@@ -1,12 +1,11 @@
 -- The law, from what every list of calls keeps.
-use Rattle.std.proofs.Common.{◌≡◌, ℕ, zero, suc, ◌+◌, ◌<◌, ◌≤◌, Bool, true, false, cond, not, ◌&&◌, ◌||◌, eqb, ltb, leb, ◌⊎◌, List, [], ◌∷◌, length, get_or, set, replicate, is_some, Some, None, Ok, Err, Option, Result, sym, refl, ap, ◌∙◌, subst, inl, inr, arith}
+use Rattle.std.proofs.Common.{◌≡◌, ℕ, zero, suc, ◌+◌, ◌<◌, ◌≤◌, Bool, true, false, cond, not, ◌&&◌, ◌||◌, eqb, ltb, ◌⊎◌, List, [], ◌∷◌, length, get_or, set, replicate, Some, None, Ok, Err, Option, Result, sym, refl, ap, ◌∙◌, subst, inl, inr, arith}
 use Rattle.std.proofs.lemmas.List.{get_or-set_other, length-replicate, get_or-replicate, get_or_past}
 use Rattle.std.proofs.lemmas.Bool.{cases_lt, cond_both, eqb-false, false≢true}
-use Rattle.std.proofs.lemmas.Bool.Decides.{nat_tests}
 use Rattle.std.specs.List.Sorted.{IsPermutation}
 use Rattle.jobs.specs.Step.{Step}
 use Rattle.schedule.specs.declared.Schedule.{Ghosts}
-use Rattle.schedule.specs.Entries.{is_in, distinct, first}
+use Rattle.schedule.specs.Entries.{distinct, first}
 use Rattle.schedule.specs.History.{times}
 use Rattle.schedule.proofs.Times.{is_in_times}
 use Rattle.word.specs.Words.{still_open}
@@ -14,17 +13,15 @@ use Rattle.cell.specs.declared.call.Act.{Act}
 use Rattle.cell.specs.declared.call.Call.{Call}
 use Rattle.cell.specs.declared.call.Call.TheVariants.{Spawn, Take, At}
 use Rattle.cell.specs.declared.report.Fault.{Fault}
-use Rattle.cell.specs.declared.report.Fault.TheVariants as fault
 use Rattle.cell.specs.declared.report.Report.{Report}
 use Rattle.cell.specs.Keeps.{exists, held}
 use Rattle.cell.specs.Acts.{Cell, word, Move, acted}
 use Rattle.cell.specs.Events.{waits, to_run}
 use Rattle.cell.proofs.Phases.{is_kept}
-use Rattle.cell.proofs.Rows.{alert}
-use Rattle.rack.specs.Racks.{After, Stepped, crowded, located, refusal, settled, spawn_into, act_on, hand_over, waiting_in, take_first, decided}
-use Rattle.rack.specs.History.{Event, event, concerns, life, runnable, handed_out, taken_back, alive, awake}
+use Rattle.rack.specs.Racks.{After, Stepped, located, settled, spawn_into, act_on, hand_over, waiting_in, take_first, decided}
+use Rattle.rack.specs.History.{Event, event, concerns, life, runnable, awake}
 use Rattle.rack.specs.Law.{Ran, none, more, Alone, standing_in, Law}
-use Rattle.rack.proofs.Lives.{Fits, Empties, Meets, alive_is, runs_is}
+use Rattle.rack.proofs.Lives.{Fits, Meets, alive_is, runs_is}
 use Rattle.rack.proofs.Kept.{Kept, kept_more}
 
 one_some : (t : Bool) → ltb 0 (cond t 1 0) ≡ t

@@ -1,26 +1,21 @@
 -- A cell and the life of its bay go together.
-use Rattle.std.proofs.Common.{◌≡◌, ℕ, ◌+◌, ◌<◌, ◌≤◌, Bool, true, false, cond, not, ◌&&◌, ◌||◌, eqb, ltb, ◌⊎◌, List, [], ◌∷◌, ◌++◌, is_some, Some, None, Ok, Err, Option, Result, sym, refl, ap, ◌∙◌, subst, inl, inr, arith}
-use Rattle.std.proofs.lemmas.Bool.{lt-ltb, le-ltb, ltb-true, cond-true, and_cases, not-false, eqb-false, or_left, or_right, or_from, cases_Bool, eq-eqb, ne_eqb, eqb-true, false≢true, true≢false}
+use Rattle.std.proofs.Common.{◌≡◌, ℕ, ◌+◌, Bool, true, false, cond, not, ◌&&◌, ◌||◌, eqb, ltb, ◌⊎◌, List, [], ◌∷◌, ◌++◌, is_some, Some, None, Ok, Option, sym, refl, ap, ◌∙◌, subst, inl, inr, arith}
+use Rattle.std.proofs.lemmas.Bool.{lt-ltb, le-ltb, cond-true, and_cases, not-false, eqb-false, or_left, or_right, or_from}
 use Rattle.jobs.specs.Step.{Step, pends, gives}
 use Rattle.jobs.specs.Through.{Through, through, standing, finished, poll_on}
 use Rattle.jobs.specs.Through as run
 use Rattle.jobs.proofs.Through.{polls_push}
-use Rattle.word.specs.Words.{still_open}
 use Rattle.cell.specs.declared.call.Kind.TheVariants as kind
 use Rattle.cell.specs.declared.call.Act.{Act}
-use Rattle.cell.specs.declared.call.Call.{Call}
 use Rattle.cell.specs.declared.call.Call.TheVariants.{Spawn, Take, At}
 use Rattle.cell.specs.declared.register.Stage.{Stage}
 use Rattle.cell.specs.declared.register.Stage.TheVariants.{Gone, InHand, Waiting, Begun, Polled}
 use Rattle.cell.specs.declared.report.Report.{Report}
-use Rattle.cell.specs.declared.report.Answer.TheVariants as answer
 use Rattle.cell.specs.declared.raw.Content.{Content}
-use Rattle.cell.specs.declared.raw.Content.TheVariants.{Future, Output, Empty}
 use Rattle.cell.specs.Cells.{unheld}
 use Rattle.cell.specs.Keeps.{exists, held, runs}
-use Rattle.cell.specs.Steps.{says}
 use Rattle.cell.specs.Acts.{Cell, word, spawned, is_waiting}
-use Rattle.cell.specs.Events.{is, is_pending, word_of, polled_with, asked_after, whereabouts, task_after, hands_out, takes_back, waits, to_run}
+use Rattle.cell.specs.Events.{is, is_pending, word_of, polled_with, asked_after, whereabouts, task_after, to_run}
 use Rattle.cell.proofs.Phases.{Phase, idle, hand, wait, begun, pending, ready, done, over, stage_of, scheduled_in, Is, is_kept}
 use Rattle.cell.proofs.Rows.{Follows, after_step, alert, Goes, Ends}
 use Rattle.cell.proofs.Doing.{in_hand, take_is, spawn_is}

@@ -1,7 +1,7 @@
 -- What an opening and a list of calls come to, one bay and one call more at a time.
-use Rattle.std.proofs.Common.{◌≡◌, ℕ, ◌+◌, ◌<◌, ◌≤◌, Bool, true, false, cond, ◌||◌, eqb, ltb, ◌⊎◌, List, [], ◌∷◌, ◌++◌, map, reverse, length, get_or, take, set, replicate, is_some, Some, None, Ok, Err, Option, Result, sym, refl, ap, ◌∙◌, subst, inl, inr, arith}
-use Rattle.std.proofs.lemmas.List.{length-map, length-take, take_more, take_more_set, take_all, map_push, replicate_more, reverse-append}
-use Rattle.std.proofs.lemmas.Bool.{cond_both, cond-true, cond-false, ne_eqb, eq-eqb, lt-ltb, le-ltb, ltb-false, eqb-false, or_left, or_right, or_from, or_parts}
+use Rattle.std.proofs.Common.{◌≡◌, ℕ, ◌+◌, ◌<◌, ◌≤◌, true, false, ◌||◌, eqb, ltb, ◌⊎◌, List, [], ◌∷◌, ◌++◌, map, reverse, length, get_or, take, set, replicate, is_some, Some, None, Ok, Err, Option, Result, sym, refl, ap, ◌∙◌, subst, inl, inr, arith}
+use Rattle.std.proofs.lemmas.List.{length-take, take_more, take_more_set, take_all, map_push, replicate_more, reverse-append}
+use Rattle.std.proofs.lemmas.Bool.{cond_both, cond-true, cond-false, ne_eqb, lt-ltb, le-ltb, ltb-false, eqb-false, or_left, or_right, or_from, or_parts}
 use Rattle.jobs.specs.Step.{Step}
 use Rattle.schedule.specs.declared.Schedule.{Ghosts}
 use Rattle.schedule.specs.Entries.{first}
@@ -13,10 +13,9 @@ use Rattle.cell.specs.declared.report.Report.{Report}
 use Rattle.cell.specs.declared.cell.Bay.{Bay}
 use Rattle.cell.specs.declared.cell.Bay.TheVariants.{Vacant}
 use Rattle.cell.specs.Acts.{Cell, bay_of}
-use Rattle.rack.specs.declared.run.Unserved.{Unserved}
-use Rattle.rack.specs.declared.run.Unserved.TheVariants.{Refused, NoRoom}
+use Rattle.rack.specs.declared.run.Unserved.TheVariants.{Refused}
 use Rattle.rack.specs.Racks.{views, unfit, Opens, Stepped}
-use Rattle.rack.specs.History.{Event, event, beside, history}
+use Rattle.rack.specs.History.{event, beside, history}
 use Rattle.rack.specs.Law.{Ran, none, more}
 use Rattle.rack.specs.Runs.{unserved}
 use Rattle.rack.proofs.Laws.{alone}

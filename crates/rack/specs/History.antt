@@ -1,9 +1,9 @@
 -- What happened on a rack: the calls, each with what was said of it, the newest first; and what that tells of a bay.
-use Rattle.std.specs.Prelude.{ℕ, ◌+◌, Bool, true, false, cond, not, ◌&&◌, ◌||◌, List, [], ◌∷◌, ◌++◌, reverse, Some, None, Ok, Err, Option, Result, ◌==◌, nat_lt}
+use Rattle.std.specs.Prelude.{ℕ, ◌+◌, Bool, true, false, cond, ◌||◌, List, [], ◌∷◌, ◌++◌, reverse, Some, None, Ok, Err, Option, Result, ◌==◌, nat_lt}
 use Rattle.cell.specs.declared.call.Call.{Call}
 use Rattle.cell.specs.declared.call.Call.TheVariants.{Spawn, Take, At}
 use Rattle.cell.specs.declared.register.Stage.{Stage}
-use Rattle.cell.specs.declared.register.Stage.TheVariants.{Gone, InHand, Waiting, Begun, Polled}
+use Rattle.cell.specs.declared.register.Stage.TheVariants.{Gone, InHand}
 use Rattle.cell.specs.declared.report.Fault.{Fault}
 use Rattle.cell.specs.declared.report.Report.{Report}
 use Rattle.cell.specs.Keeps.{exists}

@@ -1,5 +1,5 @@
 -- The law: what holds of a rack after any list of calls, whatever the policy and the future.
-use Rattle.std.specs.Prelude.{◌≡◌, ℕ, ◌+◌, Bool, true, false, cond, not, ◌&&◌, ◌||◌, List, [], ◌∷◌, is_some, Some, None, Ok, Err, Option, Result, slice_index_or}
+use Rattle.std.specs.Prelude.{◌≡◌, ℕ, ◌+◌, true, false, cond, not, ◌&&◌, ◌||◌, List, [], ◌∷◌, is_some, Some, None, Ok, Err, Option, Result, slice_index_or}
 use Rattle.jobs.specs.Step.{Step}
 use Rattle.jobs.specs.Through.{through, standing, finished}
 use Rattle.schedule.specs.declared.Schedule.{Ghosts}
@@ -15,7 +15,7 @@ use Rattle.cell.specs.Keeps.{exists}
 use Rattle.cell.specs.Acts.{Cell, word}
 use Rattle.cell.specs.Events.{not_for_policy, waits, to_run, weight, delivers, delivered, outputs_dropped, futures_dropped, futures_lost}
 use Rattle.rack.specs.Racks.{Stepped}
-use Rattle.rack.specs.History.{Event, event, acted_on, names, concerns, life, runnable, handed_out, taken_back, task_out, alive, future_of, poll_word, words, awake, asked, total}
+use Rattle.rack.specs.History.{Event, event, acted_on, names, concerns, life, runnable, handed_out, taken_back, alive, future_of, poll_word, words, awake, asked, total}
 
 -- a bay that an event does not concern is as it was before it
 abbrev pub Alone : {F O : Type 0} → Event F O → List (Option (Cell F O)) → List (Option (Cell F O)) → Type 0

@@ -8,7 +8,6 @@ use Rattle.cell.specs.declared.report.Report.{Report}
 use Rattle.cell.specs.Acts.{Cell}
 use Rattle.rack.specs.declared.run.Unserved.{Unserved}
 use Rattle.rack.specs.declared.run.Unserved.TheVariants.{Refused, NoRoom}
-use Rattle.rack.specs.Racks.{unfit}
 use Rattle.rack.specs.History.{history}
 use Rattle.rack.specs.Law.{Ran, Law}
 

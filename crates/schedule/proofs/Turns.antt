@@ -3,7 +3,6 @@ use Rattle.std.proofs.Common.{◌≡◌, ℕ, ◌+◌, Bool, List, [], ◌∷◌
 use Rattle.schedule.specs.declared.Schedule.{Ghosts}
 use Rattle.schedule.specs.declared.requests.Request.TheVariants.{Put, Take}
 use Rattle.schedule.specs.declared.requests.Answer.TheVariants.{Accepted, Refused, Gave, Empty}
-use Rattle.schedule.specs.Entries.{first}
 use Rattle.schedule.specs.History.{Event, event, put_in, took_out, in_order, ins, outs, times}
 use Rattle.schedule.specs.Requests.{Ran}
 use Rattle.schedule.specs.Turns.{FirstInFirstOut, IsLast, LastInFirstOut}

@@ -1,4 +1,6 @@
 // Scheduling policies: which waiting bay is next.
+#![tactic(auto)]
+
 ghost use Rattle.std.specs.Prelude.{◌≡◌, ℕ, ◌≤◌, Bool, true, false, List, [], ◌∷◌, length, drop, if◌then◌else◌};
 ghost use Rattle.std.specs.List.Sorted.{IsPermutation};
 ghost use Rattle.schedule.specs.Entries.{is_in, distinct, below_64, first, accepts, told};

@@ -1,9 +1,9 @@
 -- The bits of a word, one by one, and the count above the flags.
-use Rattle.std.proofs.Common.{◌≡◌, ℕ, zero, suc, ◌+◌, ◌-◌, ◌*◌, ◌/◌, ◌%◌, ◌^◌, ◌<◌, min, max, not, eqb, ltb, sym, ap, ◌∙◌, zero-mul, arith}
+use Rattle.std.proofs.Common.{◌≡◌, ℕ, zero, suc, ◌+◌, ◌-◌, ◌*◌, ◌/◌, ◌%◌, ◌^◌, ◌<◌, min, max, eqb, ltb, sym, ap, ◌∙◌, zero-mul, arith}
 use lib.Bits.{bit_and, bit_or, and_step, or_step, and_shr, or_shr, and_high, and_mask, or_zero_r}
 use Rattle.std.proofs.lemmas.Nat.{pow_pos, pow-add}
 use Rattle.std.proofs.lemmas.Bool.Decides.{nat_tests}
-use Rattle.word.specs.State.{has, count, without_flags, SetsOnly, ClearsOnly}
+use Rattle.word.specs.State.{has, without_flags, SetsOnly, ClearsOnly}
 
 -- the bit of a word at a place
 abbrev pub bit : ℕ → ℕ → ℕ

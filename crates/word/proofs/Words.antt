@@ -2,9 +2,8 @@
 use Rattle.std.proofs.Common.{◌≡◌, ℕ, zero, suc, ◌+◌, ◌-◌, ◌*◌, ◌/◌, ◌%◌, ◌^◌, ◌<◌, ◌≤◌, min, Bool, true, false, cond, not, ◌&&◌, ◌||◌, eqb, ltb, sym, refl, ap, ◌∙◌, add-zero, one-mul, zero-mul, arith, lit<}
 use lib.Bits.{bit_and, and_mod, and_le_r}
 use Rattle.std.proofs.lemmas.Nat.{mod-pow-add}
-use Rattle.std.proofs.lemmas.Bool.Decides.{nat_tests}
 use Rattle.word.specs.State.{has, count, with_flags, without_flags}
-use Rattle.word.specs.Words.{Word, read, number, Whole, setting, clearing, referenced, released}
+use Rattle.word.specs.Words.{read, Whole, setting, clearing, referenced, released}
 use Rattle.word.proofs.Bits.{bit, has_bit, sets, clears}
 
 or_swap : (a b : Bool) → (a || b) ≡ (b || a)

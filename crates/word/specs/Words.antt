@@ -1,5 +1,5 @@
 -- A state word by its parts: the eight flags and the count.
-use Rattle.std.specs.Prelude.{◌≡◌, ℕ, ◌+◌, ◌-◌, ◌*◌, min, Bool, true, false, cond, not, ◌&&◌, ◌||◌}
+use Rattle.std.specs.Prelude.{◌≡◌, ℕ, ◌+◌, ◌-◌, ◌*◌, min, Bool, cond, not, ◌&&◌, ◌||◌}
 use Rattle.word.specs.State.{has, count}
 
 pub record Word : Type 0 where

@@ -1,2 +1,4 @@
 // The state word of a task cell.
+#![tactic(auto)]
+
 pub mod state;

@@ -1,4 +1,4 @@
-use Rattle.std.proofs.Common.{◌≡◌, ◌⊎◌, inl, inr, arith}
+use Rattle.std.proofs.Common.{inl, inr}
 use Rattle.rack.proofs.Steps.{located_crowded, located_past, located_at}
 use Rattle.rack.proofs.calls.find.Goals as goal
 

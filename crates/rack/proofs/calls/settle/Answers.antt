@@ -1,5 +1,4 @@
-use Rattle.std.proofs.Common.{◌≡◌, true, false, sym, ap, ◌∙◌}
-use Rattle.schedule.specs.Entries.{accepts}
+use Rattle.std.proofs.Common.{sym, ◌∙◌}
 use Rattle.std.proofs.lemmas.Bool.{cond-true}
 use Rattle.rack.proofs.Steps.{settled_kept, settled_put, settled_refused}
 use Rattle.rack.proofs.calls.settle.Goals as goal

@@ -1,5 +1,5 @@
-use Rattle.std.proofs.Common.{◌≡◌, ◌⊎◌, sym, ap, ◌∙◌, inl, inr}
-use Rattle.cell.specs.Acts.{bay_of, cell_in}
+use Rattle.std.proofs.Common.{sym, ap, ◌∙◌, inl, inr}
+use Rattle.cell.specs.Acts.{bay_of}
 use Rattle.rack.specs.Racks.{waiting_in}
 use Rattle.rack.proofs.Steps.{take_crowded, take_none, take_past, take_stray, take_found}
 use Rattle.rack.proofs.calls.take.Goals as goal

@@ -1,4 +1,4 @@
-use Rattle.std.proofs.Common.{◌≡◌, vec_items, sym, ◌∙◌, subst}
+use Rattle.std.proofs.Common.{vec_items, sym, ◌∙◌, subst}
 use Rattle.rack.specs.Racks.{views}
 use Rattle.rack.specs.Prices.{Balances}
 use Rattle.rack.proofs.Pricing.{priced_is, same_list, no_list}

@@ -1,7 +1,7 @@
-use Rattle.std.proofs.Common.{◌≡◌, ◌<◌, ◌≤◌, [], length, replicate, None, vec_items, vec_len, vec_capacity, sym, refl, ap, ◌∙◌, subst, arith}
+use Rattle.std.proofs.Common.{◌≡◌, length, replicate, None, vec_items, vec_capacity, sym, refl, ap, ◌∙◌, subst, arith}
 use Rattle.std.proofs.lemmas.List.{length-map, length-replicate, take_all}
 use Rattle.cell.specs.Acts.{bay_of}
-use Rattle.rack.specs.Racks.{views, unfit}
+use Rattle.rack.specs.Racks.{views}
 use Rattle.rack.specs.History.{history}
 use Rattle.rack.specs.Law.{Ran}
 use Rattle.rack.proofs.Laws.{law}

@@ -5,7 +5,7 @@ use Rattle.cell.specs.Keeps.{held, agrees}
 use Rattle.cell.specs.Registers.{advanced}
 use Rattle.cell.specs.Steps.{raw_of, outcome_of}
 use Rattle.cell.specs.Table.{act_kind}
-use Rattle.cell.specs.Acts.{cell_of, Keeps, has_ended}
+use Rattle.cell.specs.Acts.{cell_of, has_ended}
 use Rattle.cell.proofs.Doing.{act_keeps}
 use Rattle.cell.proofs.act.Cell+F+F+Output.act.Goals as goal
 
