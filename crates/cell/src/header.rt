@@ -1,7 +1,6 @@
 // The header of a task: its state word and its waiter.
 ghost use Rattle.std.specs.Prelude.{◌≡◌};
 ghost use Rattle.cell.specs.Cells.{head_of, told, untold, unheld, letting_go};
-ghost use Rattle.word.specs.Words.{read};
 
 use word::state::{AWAITER, TASK, count, has, less, without};
 

@@ -1,6 +1,5 @@
 // The Runnable, and what becomes of it: a Running by begin, a Polled by poll.
 ghost use Rattle.std.specs.Prelude.{◌≡◌, true, false};
-ghost use Rattle.cell.specs.declared.call.Act.TheVariants as act;
 ghost use Rattle.cell.specs.declared.call.Call.TheVariants.{Spawn, Take, At};
 ghost use Rattle.rack.specs.Racks.{views, Stepped};
 ghost use Rattle.handles.specs.Handles.{Spends, Begins, Polls, Spawns, Takes, Clones};

@@ -1,7 +1,6 @@
 // The Task: asks for the output, and cancels.
 ghost use Rattle.std.specs.Prelude.{◌≡◌, true, false};
-ghost use Rattle.cell.specs.declared.call.Act.TheVariants as act;
-ghost use Rattle.cell.specs.declared.call.Call.TheVariants.{Spawn, Take, At};
+ghost use Rattle.cell.specs.declared.call.Call.TheVariants.{At};
 ghost use Rattle.rack.specs.Racks.{views, Stepped};
 ghost use Rattle.handles.specs.Handles.{Spends};
 

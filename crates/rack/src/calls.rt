@@ -1,5 +1,5 @@
 // The calls by number. Each is passed the bays and the policy, and gives a report or a refusal.
-ghost use Rattle.std.specs.Prelude.{◌≡◌, ◌<◌, true, length, Ok, Err, OnOk, slice_set};
+ghost use Rattle.std.specs.Prelude.{◌≡◌, ◌<◌, length, Ok, Err, OnOk, slice_set};
 ghost use Rattle.cell.specs.Acts.{move_of};
 ghost use Rattle.cell.specs.Steps.{says as saying};
 ghost use Rattle.cell.specs.declared.call.Call.TheVariants.{Spawn, Take, At};

@@ -1,5 +1,5 @@
 // Opening a rack, and whole lists of calls.
-ghost use Rattle.std.specs.Prelude.{◌≡◌, length, vec_capacity, OnOk};
+ghost use Rattle.std.specs.Prelude.{length, vec_capacity, OnOk};
 ghost use Rattle.rack.specs.Racks.{views, unfit, Opens};
 ghost use Rattle.rack.specs.Runs.{Serves, unserved, Refuses};
 
