@@ -1,6 +1,6 @@
+// Tests at the edges of the rules: the smallest and the largest numbers, a full policy, layer over layer.
 #![tactic(auto)]
 
-// Tests at the edges of the rules: the smallest and the largest numbers, a full policy, layer over layer.
 #[cfg(test)]
 mod policies;
 #[cfg(test)]

@@ -87,7 +87,6 @@ impl<E: End> Schedule for Line<E> {
     }
 
     fn take(&mut self) -> Option<u32> {
-        // and not pop_front, which promises nothing of the capacity
         self.bays.remove(0)
     }
 
