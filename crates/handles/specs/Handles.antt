@@ -5,8 +5,8 @@ use Rattle.cell.specs.declared.report.Report.{Report}
 use Rattle.cell.specs.Events.{is_begun, finds}
 use Rattle.handles.specs.declared.refused.Refused.{Refused}
 use Rattle.handles.specs.declared.runnable.Runnable.{Runnable}
-use Rattle.handles.specs.declared.runnable.Running.{Running}
-use Rattle.handles.specs.declared.runnable.Polled.{Polled}
+use Rattle.handles.specs.declared.running.Running.{Running}
+use Rattle.handles.specs.declared.polled.Polled.{Polled}
 use Rattle.handles.specs.declared.runnable.Began.{Began}
 use Rattle.handles.specs.declared.runnable.Began.TheVariants as began
 use Rattle.handles.specs.declared.task.Task.{Task}

@@ -1,12 +1,16 @@
 // The calls by handle: tokens that hold a bay number and have to be spent.
 #![tactic(auto)]
 
+pub mod polled;
 pub mod refused;
 pub mod runnable;
+pub mod running;
 pub mod task;
 pub mod waker;
 
+pub use polled::Polled;
 pub use refused::Refused;
-pub use runnable::{Began, Polled, Runnable, Running, spawn, take};
+pub use runnable::{Began, Runnable, spawn, take};
+pub use running::Running;
 pub use task::Task;
 pub use waker::Waker;
