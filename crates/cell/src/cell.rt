@@ -1,5 +1,5 @@
 // A bay, and the task cell in it.
-ghost use Rattle.std.specs.Prelude.{◌≡◌, ◌+◌, ◌≤◌, true};
+ghost use Rattle.std.specs.Prelude.{◌≡◌, ◌+◌, ◌≤◌, true, ⊤};
 ghost use Rattle.word.specs.Words.{read};
 ghost use Rattle.cell.specs.Steps.{raw_of};
 ghost use Rattle.cell.specs.Keeps.{held, agrees};
@@ -21,6 +21,10 @@ pub struct Cell<F, O> {
 }
 
 impl<F: Copy, O: Copy> Clone for Cell<F, O> {
+    ghost is_clone = { λ old new. new ≡ old };
+
+    ghost is_infallible = { λ _. ⊤ };
+
     fn clone(&self) -> Result<Cell<F, O>, AllocError> {
         Ok(*self)
     }
@@ -35,6 +39,10 @@ pub enum Bay<F, O> {
 }
 
 impl<F: Copy, O: Copy> Clone for Bay<F, O> {
+    ghost is_clone = { λ old new. new ≡ old };
+
+    ghost is_infallible = { λ _. ⊤ };
+
     fn clone(&self) -> Result<Bay<F, O>, AllocError> {
         Ok(*self)
     }
