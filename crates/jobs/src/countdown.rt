@@ -1,9 +1,9 @@
 // A future that counts its polls down.
 ghost use Rattle.jobs.specs.Kinds.{countdown_step, countdown_start};
 ghost use Rattle.jobs.specs.Runs.{CountsDown};
+ghost use Rattle.jobs.specs.Laws.{counts_down};
 
 use super::future::{Future, Job, Poll};
-use super::runs::{Played, play};
 
 // Pending `left` times more, then Ready with `from`, whatever the words.
 #[derive(Clone, Copy)]
@@ -31,6 +31,10 @@ impl Job for Countdown {
 
     ghost number = { λ n. n };
 
+    ghost comes_to = { CountsDown };
+
+    ghost played = { counts_down };
+
     fn start(word: u32) -> Countdown {
         Countdown {
             from: word,
@@ -40,15 +44,5 @@ impl Job for Countdown {
 
     fn shown(output: &u32) -> u32 {
         *output
-    }
-}
-
-impl Countdown {
-    // Polls a new countdown from `n` with the words, one after another, until it is Ready.
-    pub fn play(n: u32, words: &[u32]) -> Played<u32>
-        ensures { CountsDown n words.now result }
-    {
-        let mut countdown = Countdown::start(n);
-        play(&mut countdown, words)
     }
 }

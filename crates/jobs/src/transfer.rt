@@ -1,9 +1,9 @@
 // A future that plays a tape, a stretch of seconds at a time.
 ghost use Rattle.jobs.specs.Kinds.{transfer_step, transfer_start};
 ghost use Rattle.jobs.specs.Runs.{Transfers};
+ghost use Rattle.jobs.specs.Laws.{transfers};
 
 use super::future::{Future, Job, Poll};
-use super::runs::{Played, play};
 
 // Each word is a stretch played, in seconds; Ready once `goal` seconds are reached.
 #[derive(Clone, Copy)]
@@ -43,6 +43,10 @@ impl Job for Transfer {
 
     ghost number = { λ recording. recording.polls };
 
+    ghost comes_to = { Transfers };
+
+    ghost played = { transfers };
+
     fn start(word: u32) -> Transfer {
         Transfer {
             goal: word,
@@ -53,15 +57,5 @@ impl Job for Transfer {
 
     fn shown(output: &Recording) -> u32 {
         output.polls
-    }
-}
-
-impl Transfer {
-    // Polls a new transfer of `goal` seconds with the stretches, one after another, until it is Ready.
-    pub fn play(goal: u32, stretches: &[u32]) -> Played<Recording>
-        ensures { Transfers goal stretches.now result }
-    {
-        let mut transfer = Transfer::start(goal);
-        play(&mut transfer, stretches)
     }
 }

@@ -4,7 +4,7 @@ use Rattle.std.proofs.lemmas.Bool.{lt-ltb, le-ltb, cond-true, and_cases, not-fal
 use Rattle.jobs.specs.Step.{Step, pends, gives}
 use Rattle.jobs.specs.Through.{Through, through, standing, finished, poll_on}
 use Rattle.jobs.specs.Through as run
-use Rattle.jobs.proofs.Through.{polls_push}
+use Rattle.jobs.specs.Stands.{polls_push}
 use Rattle.cell.specs.declared.call.Kind.TheVariants as kind
 use Rattle.cell.specs.declared.call.Act.{Act}
 use Rattle.cell.specs.declared.call.Call.TheVariants.{Spawn, Take, At}

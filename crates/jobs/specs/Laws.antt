@@ -1,4 +1,4 @@
--- Countdown and Transfer over whole runs.
+-- The laws of Countdown and Transfer: what whole runs of them come to. These are lemmas, which no clause names.
 use Rattle.std.proofs.Common.{◌≡◌, ℕ, ◌+◌, ◌-◌, ◌<◌, ◌≤◌, min, Bool, true, false, cond, eqb, ltb, List, [], ◌∷◌, ◌++◌, length, get_or, take, Some, None, sum, Option, sym, refl, ap, ◌∙◌, arith, MatchOption}
 use Rattle.std.proofs.lemmas.Bool.Decides.{nat_tests}
 use Rattle.std.proofs.lemmas.List.{take_more, take_all, take-take, length_push, length-take}
@@ -11,7 +11,7 @@ use Rattle.jobs.specs.declared.runs.Played.{Played}
 use Rattle.jobs.specs.declared.countdown.Countdown.{Countdown}
 use Rattle.jobs.specs.declared.transfer.Transfer.{Transfer}
 use Rattle.jobs.specs.declared.transfer.Recording.{Recording}
-use Rattle.jobs.proofs.Through.{stands, finishes}
+use Rattle.jobs.specs.Stands.{stands, finishes}
 
 -- the two ways of a test that picks a step
 pends_by : {F O : Type 0} (t : Bool) (o : O) (f g : F) → cond t (gives o) (pends f) ≡ pends g → (t ≡ false) × (g ≡ f)
