@@ -1,5 +1,5 @@
 -- What goes in comes out once: by induction over the requests.
-use Rattle.std.proofs.Common.{◌≡◌, ℕ, ◌+◌, Bool, true, false, cond, not, ◌&&◌, eqb, ltb, List, [], ◌∷◌, length, sym, refl, ap, ◌∙◌, arith, length-append}
+use Rattle.std.proofs.Common.{◌≡◌, ℕ, ◌+◌, Bool, true, false, Some, None, not, ◌&&◌, eqb, ltb, List, [], ◌∷◌, length, sym, refl, ap, ◌∙◌, arith, length-append}
 use Rattle.std.proofs.lemmas.Bool.Decides.{nat_tests}
 use Rattle.std.proofs.lemmas.List.Sorted.{length_permutation as length-shuffled}
 use Rattle.std.specs.List.Sorted.{IsPermutation}
@@ -7,7 +7,7 @@ use Rattle.schedule.specs.declared.Schedule.{Ghosts}
 use Rattle.schedule.specs.declared.requests.Request.{Request}
 use Rattle.schedule.specs.declared.requests.Request.TheVariants.{Put, Take}
 use Rattle.schedule.specs.declared.requests.Answer.{Answer}
-use Rattle.schedule.specs.declared.requests.Answer.TheVariants.{Accepted, Refused, Gave, Empty}
+use Rattle.schedule.specs.declared.requests.Answer.TheVariants.{Accepted, Gave}
 use Rattle.schedule.specs.Entries.{is_in, distinct, accepts}
 use Rattle.schedule.specs.History.{Event, event, put_in, took_out, ins, outs, times, inside, held, Each}
 use Rattle.schedule.specs.Requests.{Obeys, Ran, Ruled, Once}
@@ -45,8 +45,8 @@ module _ {S : Type 0} (P : Ghosts S)
       rw (i, j, r) refl
 
   answer_is : (n b : ℕ) (h : List Event) (s : S) → Keeps n h s → (t : Bool) → accepts b (P.entries s) (P.places s) ≡ t
-      → cond t Accepted Refused ≡ cond (ltb b 64 && (not (inside b h) && ltb (held h) n)) Accepted Refused
-  answer_is n b h s k t e = ap (λ x. cond x Accepted Refused) (sym e ∙ accepted_is n b h s k)
+      → Accepted t ≡ Accepted (ltb b 64 && (not (inside b h) && ltb (held h) n))
+  answer_is n b h s k t e = ap Accepted (sym e ∙ accepted_is n b h s k)
 
   -- one event more: what it put in and what was there is what it took out and what is there now
   keeps_more : (n : ℕ) (h : List Event) (e : Event) (s s' : S) → Keeps n h s → P.agrees s' → P.places s' ≡ P.places s → Ruled n h e
@@ -73,21 +73,21 @@ module _ {S : Type 0} (P : Ghosts S)
   kept_by : (n : ℕ) (h : List Event) (e : Event) (s s' : S) → Keeps n h s → P.agrees s' → P.places s' ≡ P.places s → Happens P s s' e → Keeps n (e ∷ h) s'
   kept_by n h e s s' k g p (goes_in b m t i) =
       let sh = keeps s b m k.agree in
-      keeps_more n h (event (Put b m) Accepted) s s' k g p (answer_is n b h s k true t)
+      keeps_more n h (event (Put b m) (Accepted true)) s s' k g p (answer_is n b h s k true t)
       (λ c. let v : times c (P.entries s') ≡ times c (b ∷ P.entries s) = ap (times c) i ∙ times_shuffled c _ _ sh in
       let w = times_cons c b (P.entries s) in
       let u = times_cons c b [] in
       omega arith)
       (let y = length-shuffled _ _ sh in let l : length (P.entries s') ≡ length (P.after s b m) = ap length i in omega arith)
   kept_by n h e s s' k g p (stays_out b m t i) =
-      keeps_more n h (event (Put b m) Refused) s s' k g p (answer_is n b h s k false t)
+      keeps_more n h (event (Put b m) (Accepted false)) s s' k g p (answer_is n b h s k false t)
       (λ c. let v : times c (P.entries s') ≡ times c (P.entries s) = ap (times c) i in omega arith)
       (let l : length (P.entries s') ≡ length (P.entries s) = ap length i in omega arith)
   kept_by n h e s s' k g p (comes_out b es q i) =
       let l : length (P.entries s) ≡ length (b ∷ es) = ap length q in
       let l' : length (P.entries s') ≡ length es = ap length i in
       let held_by = held_is h (P.entries s) k.long in
-      keeps_more n h (event Take (Gave b)) s s' k g p
+      keeps_more n h (event Take (Gave (Some b))) s s' k g p
       (inside_is b h (P.entries s) (k.balance b) ∙ ap (is_in b) q ∙ (let t = eqb_self b in rw t refl), omega arith)
       (λ c. let v : times c (P.entries s') ≡ times c es = ap (times c) i in
       let w : times c (P.entries s) ≡ times c (b ∷ es) = ap (times c) q in
@@ -98,7 +98,7 @@ module _ {S : Type 0} (P : Ghosts S)
   kept_by n h e s s' k g p (none_there q i) =
       let l : length (P.entries s) ≡ 0 = ap length q in
       let l' : length (P.entries s') ≡ 0 = ap length i in
-      keeps_more n h (event Take Empty) s s' k g p (held_is h (P.entries s) k.long ∙ l)
+      keeps_more n h (event Take (Gave None)) s s' k g p (held_is h (P.entries s) k.long ∙ l)
       (λ c. let v : times c (P.entries s') ≡ times c (P.entries s) = ap (times c) (i ∙ sym q) in omega arith)
       (omega arith)
 

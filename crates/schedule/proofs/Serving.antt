@@ -1,13 +1,11 @@
 -- A list of requests, taken one more at a time.
-use Rattle.std.proofs.Common.{◌≡◌, ℕ, ◌+◌, ◌<◌, ◌≤◌, false, ltb, List, [], ◌∷◌, ◌++◌, reverse, length, get_or, take, is_some, None, sym, refl, ap, ◌∙◌, subst, arith}
-use Rattle.std.proofs.lemmas.Bool.Decides.{nat_tests}
+use Rattle.std.proofs.Common.{◌≡◌, ℕ, ◌+◌, ◌<◌, List, [], ◌∷◌, ◌++◌, reverse, length, get_or, take, sym, refl, ap, ◌∙◌, subst, arith}
 use Rattle.std.proofs.lemmas.List.{reverse-append, take_more, length-take}
 use Rattle.schedule.specs.declared.Schedule.{Ghosts}
 use Rattle.schedule.specs.declared.requests.Request.{Request}
 use Rattle.schedule.specs.declared.requests.Answer.{Answer}
-use Rattle.schedule.specs.Entries.{first}
 use Rattle.schedule.specs.History.{event, beside, history}
-use Rattle.schedule.specs.Requests.{Obeys, Ran, more, refusal}
+use Rattle.schedule.specs.Requests.{Obeys, Ran, more}
 
 -- one request more at the end of a list is one event more at the head of its history
 beside_push : (os : List Request) (ans : List Answer) (o : Request) (a : Answer) → length ans ≡ length os → beside (os ++ o ∷ []) (ans ++ a ∷ []) ≡ beside os ans ++ event o a ∷ []
@@ -29,6 +27,3 @@ ran_more P start os i d ans ans' a s s' h n q r y =
     let w : history (take (i + 1) os) ans' ≡ event o a ∷ history (take i os) ans =
     ap (λ x. history x ans') (take_more os i d h) ∙ ap (history (take i os ++ o ∷ [])) q ∙ history_push (take i os) ans o a (omega arith) in
     subst (λ x. Ran P start x s') (sym w) (more o a r y)
-
-pub unrefused : (es : List ℕ) (n room : ℕ) → is_some (first es) ≡ false → n ≤ room → refusal es n room ≡ None
-unrefused es n room e h = rw e (let t : ltb room n ≡ false = grind (arith, nat_tests) in rw t refl)

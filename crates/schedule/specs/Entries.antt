@@ -1,10 +1,10 @@
 -- The entries of a policy: a list of bay numbers, the next to be taken first.
-use Rattle.std.specs.Prelude.{ℕ, min, Bool, true, false, not, ◌&&◌, ◌||◌, List, [], ◌∷◌, length, Some, None, Option, ◌==◌, nat_lt}
+use Rattle.std.specs.Prelude.{ℕ, min, Bool, true, not, ◌&&◌, List, [], ◌∷◌, length, Some, None, Option, ◌==◌, nat_lt}
+use Rattle.std.specs.List.{list_any}
 
 -- the number is an entry
 abbrev pub is_in : ℕ → List ℕ → Bool
-is_in b [] = false
-is_in b (x ∷ xs) = x == b || is_in b xs
+is_in b xs = list_any (λ x. x == b) xs
 
 -- no number stands twice
 abbrev pub distinct : List ℕ → Bool

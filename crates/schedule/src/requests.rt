@@ -11,13 +11,11 @@ pub enum Request {
     Take,
 }
 
-// What it answered: to a put, Accepted or Refused; to a take, Gave or Empty.
+// What it answered: to a put, whether it accepted the bay; to a take, the bay that it gave, if it had one.
 #[derive(Clone, Copy)]
 pub enum Answer {
-    Accepted,
-    Refused,
-    Gave(u32),
-    Empty,
+    Accepted(bool),
+    Gave(Option<u32>),
 }
 
 // Why no request of a list was carried out.
@@ -34,17 +32,8 @@ fn obey<S: Schedule>(policy: &mut S, request: Request) -> Answer
         Request::Put {
             bay,
             woken_while_running,
-        } => {
-            if policy.put(bay, woken_while_running) {
-                Answer::Accepted
-            } else {
-                Answer::Refused
-            }
-        }
-        Request::Take => match policy.take() {
-            Some(bay) => Answer::Gave(bay),
-            None => Answer::Empty,
-        },
+        } => Answer::Accepted(policy.put(bay, woken_while_running)),
+        Request::Take => Answer::Gave(policy.take()),
     }
 }
 
@@ -66,8 +55,7 @@ pub fn serve<S: Schedule>(
     }
     answers.clear();
     for request in requests {
-        let answer = obey(policy, *request);
-        answers.push_reserved(answer);
+        answers.push_reserved(obey(policy, *request));
     }
     Ok(())
 }
