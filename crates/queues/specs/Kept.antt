@@ -2,7 +2,7 @@
 use Rattle.std.specs.Prelude.{ℕ, Bool, true, false, List, ◌∷◌}
 use Rattle.std.specs.List.Sorted.{IsPermutation}
 use Rattle.std.proofs.lemmas.List.Sorted.{IsPermutation-to_front, IsPermutation-sym, IsPermutation-refl}
-use Rattle.queues.specs.Lines.{joined}
+use Rattle.queues.specs.Ends.{joined}
 
 pub joined_keeps : (back : Bool) (es : List ℕ) (b : ℕ) → IsPermutation (b ∷ es) (joined back es b)
 joined_keeps true es b = IsPermutation-sym _ _ (IsPermutation-to_front es b)

@@ -1,17 +1,21 @@
 // A line of bays, and the end at which a new bay joins it.
-ghost use Rattle.std.specs.Prelude.{◌≡◌, ◌≤◌, Bool, true, false};
+ghost use Rattle.std.specs.Prelude.{◌≡◌, ◌<◌, ◌≤◌, Bool, true, false, if◌then◌else◌};
 ghost use Rattle.std.specs.VecDeque.{deque_len, deque_capacity};
 ghost use Rattle.schedule.specs.Entries.{distinct, below_64};
+ghost use Rattle.queues.specs.Ends.{joined};
 
 use std::collections::VecDeque;
 use std::marker::PhantomData;
 
 pub trait End {
+    // whether it is the back
     ghost back: { Bool };
 
-    // Whether a new bay joins behind the others, and not before them.
-    fn is_back() -> bool
-        ensures { result ≡ back };
+    // Puts a bay in at this end. Without memory for it, it answers false and changes nothing.
+    fn join(bays: &mut VecDeque<u32>, bay: u32) -> bool
+        ensures items { bays.new.items ≡ (if result then joined back bays.old.items bay else bays.old.items) }
+        ensures room { deque_len bays.old < deque_capacity bays.old → result ≡ true }
+        ensures capacity { deque_capacity bays.old ≤ deque_capacity bays.new };
 }
 
 pub struct Back;
@@ -19,8 +23,8 @@ pub struct Back;
 impl End for Back {
     ghost back = { true };
 
-    fn is_back() -> bool {
-        true
+    fn join(bays: &mut VecDeque<u32>, bay: u32) -> bool {
+        bays.push_back(bay).is_ok()
     }
 }
 
@@ -29,8 +33,8 @@ pub struct Front;
 impl End for Front {
     ghost back = { false };
 
-    fn is_back() -> bool {
-        false
+    fn join(bays: &mut VecDeque<u32>, bay: u32) -> bool {
+        bays.push_front(bay).is_ok()
     }
 }
 

@@ -1,12 +1,15 @@
 // A line as a policy.
-ghost use Rattle.std.specs.Prelude.{◌≡◌, min, true, false, [], IfOk};
+ghost use Rattle.std.specs.Prelude.{◌≡◌, min, [], vec_capacity, IfOk, OnOk};
 ghost use Rattle.schedule.specs.Entries.{accepts};
-ghost use Rattle.queues.specs.Lines.{in_line, line_places, joined};
+ghost use Rattle.schedule.specs.History.{history};
+ghost use Rattle.schedule.specs.Requests.{Serves, Refuses};
+ghost use Rattle.queues.specs.Ends.{joined, Order};
+ghost use Rattle.queues.specs.Lines.{in_line, line_places};
 ghost use Rattle.queues.specs.Kept.{joined_keeps};
 ghost use Rattle.std.proofs.Common.{rules};
 
 use super::line::{End, Line};
-use schedule::Schedule;
+use schedule::{Answer, Request, Schedule, Unserved, serve};
 use std::alloc::{AllocError, Global};
 use std::collections::VecDeque;
 use std::marker::PhantomData;
@@ -31,20 +34,13 @@ impl<E: End> Line<E> {
         bay < 64 && !self.holds(bay) && self.bays.len() < self.places
     }
 
-    fn push_back(&mut self, bay: u32)
-        requires { accepts bay (in_line self.old) (line_places self.old) ≡ true }
-        ensures items { in_line self.new ≡ joined true (in_line self.old) bay }
-        ensures places { line_places self.new ≡ line_places self.old }
+    // Carries out a list of requests on it while it is empty, as `schedule::serve` does.
+    pub fn serve(&mut self, requests: &[Request], answers: &mut Vec<Answer>) -> Result<(), Unserved>
+        ensures served { OnOk result (Serves ⟦<Line<E> as Schedule>⟧ self.old requests.now answers.new.items self.new) }
+        ensures refused { Refuses ⟦<Line<E> as Schedule>⟧ requests.now (vec_capacity answers.old) self.old answers.old result self.new answers.new }
+        ensures order { OnOk result (Order E.back (history requests.now answers.new.items) (in_line self.new)) }
     {
-        self.bays.push_back_reserved(bay);
-    }
-
-    fn push_front(&mut self, bay: u32)
-        requires { accepts bay (in_line self.old) (line_places self.old) ≡ true }
-        ensures items { in_line self.new ≡ joined false (in_line self.old) bay }
-        ensures places { line_places self.new ≡ line_places self.old }
-    {
-        self.bays.push_front_reserved(bay);
+        serve(self, requests, answers)
     }
 }
 
@@ -71,15 +67,7 @@ impl<E: End> Schedule for Line<E> {
     ghost most = { Prim.search rules };
 
     fn put(&mut self, bay: u32, _woken_while_running: bool) -> bool {
-        if !self.admits(bay) {
-            return false;
-        }
-        if E::is_back() {
-            self.push_back(bay);
-        } else {
-            self.push_front(bay);
-        }
-        true
+        self.admits(bay) && E::join(&mut self.bays, bay)
     }
 
     fn peek(&self) -> Option<u32> {
@@ -87,7 +75,7 @@ impl<E: End> Schedule for Line<E> {
     }
 
     fn take(&mut self) -> Option<u32> {
-        self.bays.remove(0)
+        self.bays.pop_front()
     }
 
     fn places(&self) -> usize {
@@ -99,7 +87,6 @@ impl<E: End> Schedule for Line<E> {
     }
 
     fn holds(&self, bay: u32) -> bool {
-        let (front, back) = self.bays.as_slices();
-        front.contains(&bay) || back.contains(&bay)
+        self.bays.contains(&bay)
     }
 }
