@@ -1,16 +1,11 @@
--- What a put leaves in a Slot.
-use Rattle.std.proofs.Common.{◌≡◌, ℕ, Bool, true, cond, List, ◌∷◌, Some, None, Option, refl, ap, ◌∙◌, arith}
+-- What a put leaves in a Slot: two bays that fit below can go there in turn.
+use Rattle.std.proofs.Common.{◌≡◌, ℕ, Bool, true, cond, eqb, List, ◌∷◌, Some, None, Option, refl, sym, ap, ◌∙◌, subst, arith}
 use Rattle.std.proofs.lemmas.Bool.Decides.{nat_tests}
-use Rattle.std.proofs.lemmas.List.Sorted.{length_permutation}
+use Rattle.std.proofs.lemmas.List.Sorted.{length_permutation, list_any-IsPermutation}
 use Rattle.std.specs.List.Sorted.{IsPermutation}
 use Rattle.schedule.specs.declared.Schedule.{Ghosts}
 use Rattle.schedule.specs.Entries.{accepts}
-use Rattle.schedule.proofs.Entries.{is_in_shuffled}
-use Rattle.layers.specs.Slots.{slotted, could_go, lowered}
-use Rattle.layers.specs.Kept.{lowered_keeps}
-
-pub taken_way : (t : Bool) (xs ys zs : List ℕ) → t ≡ true → xs ≡ cond t ys zs → xs ≡ ys
-taken_way t xs ys zs h e = e ∙ ap (λ b. cond b ys zs) h
+use Rattle.layers.specs.Slots.{slotted, could_go}
 
 -- what the slot's policy accepts, the policy below accepts
 pub accepts_below : (slot : Option ℕ) (es : List ℕ) (n b : ℕ) → accepts b (slotted slot es) n ≡ true → accepts b es n ≡ true
@@ -23,16 +18,19 @@ pub could_still : (slot : Option ℕ) (es es' : List ℕ) (n b : ℕ) → accept
 could_still None es es' n b h k s = refl
 could_still (Some f) es es' n b h k s =
     let l = length_permutation (b ∷ es) es' s in
-    let i = is_in_shuffled f (b ∷ es) es' s in
+    let i = list_any-IsPermutation (λ x. eqb x f) (b ∷ es) es' s in
     grind (arith, nat_tests)
 
-module _ {X : Type 0} (P : Ghosts X) (keeps : (s : X) (b : ℕ) (m : Bool) → P.agrees s → IsPermutation (b ∷ P.entries s) (P.after s b m)) where
-  -- once the slot's bay has gone below, another one could go there too
-  pub could_follow : (slot : Option ℕ) (below below' : X) (b : ℕ) → P.entries below' ≡ lowered P slot below → P.places below' ≡ P.places below
-      → accepts b (slotted slot (P.entries below)) (P.places below) ≡ true → P.agrees below → could_go slot (P.entries below) (P.places below) ≡ true
-      → accepts b (P.entries below') (P.places below') ≡ true
-  could_follow slot below below' b items room h g k =
-      let s = lowered_keeps P keeps slot below g k in
-      let l = length_permutation _ _ s in
-      let i = is_in_shuffled b _ _ s in
-      ap (accepts b (P.entries below')) room ∙ ap (λ es. accepts b es (P.places below)) items ∙ rw (l, i) h
+-- and the slot's bay, if it went below, a place for the new one
+pub could_follow : (f b : ℕ) (es es' : List ℕ) (n : ℕ) → accepts b (f ∷ es) n ≡ true → IsPermutation (f ∷ es) es' → accepts b es' n ≡ true
+could_follow f b es es' n h s =
+    let l = length_permutation (f ∷ es) es' s in
+    let i = list_any-IsPermutation (λ x. eqb x b) (f ∷ es) es' s in
+    grind (arith, nat_tests)
+
+-- the entries below once a bay has gone there
+pub gone_below : {X : Type 0} (P : Ghosts X) → ((s : X) (b : ℕ) (m : Bool) → P.agrees s → IsPermutation (b ∷ P.entries s) (P.after s b m))
+    → (below below' : X) (b : ℕ) (m : Bool) → accepts b (P.entries below) (P.places below) ≡ true → P.agrees below
+    → P.entries below' ≡ cond (accepts b (P.entries below) (P.places below)) (P.after below b m) (P.entries below) → IsPermutation (b ∷ P.entries below) (P.entries below')
+gone_below P keeps below below' b m ok g e =
+    subst (IsPermutation (b ∷ P.entries below)) (sym (e ∙ ap (λ t. cond t (P.after below b m) (P.entries below)) ok)) (keeps below b m g)

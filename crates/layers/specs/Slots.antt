@@ -4,6 +4,10 @@ use Rattle.schedule.specs.declared.Schedule.{Ghosts}
 use Rattle.schedule.specs.Entries.{accepts}
 use Rattle.layers.specs.declared.slot.Slot.{Slot}
 
+-- an empty slot over a policy
+abbrev pub empty_slot : {X : Type 0} → X → Slot X
+empty_slot below = record { slot = None; below = below }
+
 -- the slot's bay, if any, before the entries below
 abbrev pub slotted : Option ℕ → List ℕ → List ℕ
 slotted None es = es

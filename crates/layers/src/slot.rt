@@ -1,7 +1,7 @@
 // One bay in a slot, before the bays of any policy.
-ghost use Rattle.std.specs.Prelude.{◌≡◌, true, false, None};
+ghost use Rattle.std.specs.Prelude.{◌≡◌};
 ghost use Rattle.schedule.specs.Entries.{accepts};
-ghost use Rattle.layers.specs.Slots.{slot_entries, slot_places, slot_agrees, lowered, slot_after};
+ghost use Rattle.layers.specs.Slots.{empty_slot, slot_entries, slot_places, slot_agrees, slot_after};
 ghost use Rattle.layers.specs.Kept.{slot_keeps};
 ghost use Rattle.std.proofs.Common.{rules};
 
@@ -18,7 +18,7 @@ pub struct Slot<P: Schedule> {
 impl<P: Schedule> Slot<P> {
     // An empty slot over a policy.
     pub fn new(below: P) -> Slot<P>
-        ensures made { (result.slot ≡ None) × (result.below ≡ below) }
+        ensures made { result ≡ empty_slot below }
         ensures agrees { P.Schedule.agrees below → slot_agrees P.Schedule result }
     {
         Slot { slot: None, below }
@@ -28,37 +28,6 @@ impl<P: Schedule> Slot<P> {
         ensures { result ≡ accepts bay (slot_entries P.Schedule self.now) (slot_places P.Schedule self.now) }
     {
         bay < 64 && !self.holds(bay) && self.len() < self.places()
-    }
-
-    fn put_below(&mut self, bay: u32)
-        requires { accepts bay (slot_entries P.Schedule self.old) (slot_places P.Schedule self.old) ≡ true }
-        ensures agrees { slot_agrees P.Schedule self.old → slot_agrees P.Schedule self.new }
-        ensures items { slot_entries P.Schedule self.new ≡ slot_after P.Schedule self.old bay true }
-        ensures room { slot_places P.Schedule self.new ≡ slot_places P.Schedule self.old }
-    {
-        let _accepted = self.below.put(bay, true);
-    }
-
-    // The slot's bay, if any, goes below; the slot is left to be filled.
-    fn lower(&mut self)
-        ensures slot { self.new.slot ≡ self.old.slot }
-        ensures agrees { P.Schedule.agrees self.old.below → P.Schedule.agrees self.new.below }
-        ensures items { P.Schedule.entries self.new.below ≡ lowered P.Schedule self.old.slot self.old.below }
-        ensures room { slot_places P.Schedule self.new ≡ slot_places P.Schedule self.old }
-    {
-        if let Some(former) = self.slot {
-            let _accepted = self.below.put(former, false);
-        }
-    }
-
-    fn fill(&mut self, bay: u32)
-        requires { accepts bay (slot_entries P.Schedule self.old) (slot_places P.Schedule self.old) ≡ true }
-        ensures agrees { slot_agrees P.Schedule self.old → slot_agrees P.Schedule self.new }
-        ensures items { slot_entries P.Schedule self.new ≡ slot_after P.Schedule self.old bay false }
-        ensures room { slot_places P.Schedule self.new ≡ slot_places P.Schedule self.old }
-    {
-        self.lower();
-        self.slot = Some(bay);
     }
 }
 
@@ -87,27 +56,26 @@ impl<P: Schedule> Schedule for Slot<P> {
         if !self.admits(bay) {
             return false;
         }
-        if woken_while_running {
-            self.put_below(bay);
+        // what goes below: the new bay, or the bay that it replaces in the slot
+        let lower = if woken_while_running {
+            Some(bay)
         } else {
-            self.fill(bay);
+            self.slot.replace(bay)
+        };
+        if let Some(lower) = lower {
+            self.below.put(lower, woken_while_running);
         }
         true
     }
 
     fn peek(&self) -> Option<u32> {
-        match self.slot {
-            Some(bay) => Some(bay),
-            None => self.below.peek(),
-        }
+        self.slot.or_else(|| self.below.peek())
     }
 
     fn take(&mut self) -> Option<u32> {
-        match self.slot {
-            Some(bay) => {
-                self.slot = None;
-                Some(bay)
-            }
+        // not `or_else`, which does not say that a closure left uncalled changes nothing below
+        match self.slot.take() {
+            Some(bay) => Some(bay),
             None => self.below.take(),
         }
     }
@@ -117,10 +85,9 @@ impl<P: Schedule> Schedule for Slot<P> {
     }
 
     fn len(&self) -> usize {
-        match self.slot {
-            Some(_) => self.below.len().saturating_add(1),
-            None => self.below.len(),
-        }
+        self.below
+            .len()
+            .saturating_add(usize::from(self.slot.is_some()))
     }
 
     fn holds(&self, bay: u32) -> bool {
