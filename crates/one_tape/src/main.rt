@@ -1,7 +1,7 @@
 // Follows tape 2210 from the delivery desk to its recording.
 #![tactic(auto)]
 
-use jobs::{Future, Job, Poll, Transfer};
+use jobs::{Future, Job, Played, Poll, Recording, Transfer};
 use queues::Queue;
 use schedule::{Answer, Request, Schedule, Unserved};
 
@@ -51,100 +51,85 @@ const STRETCHES: [u32; 4] = [1000, 1000, 1000, 1000];
 
 fn take_in(rt: &HostRuntime) -> anyhow::Result<()> {
     println!(rt; "At the delivery desk")?;
-    for (bay, tape) in TAPES.iter().enumerate() {
-        let number = tape.number;
-        let seconds = tape.seconds;
+    for (bay, Tape { number, seconds }) in TAPES.iter().enumerate() {
         println!(rt; "  Tape {number} becomes a transfer job of {seconds} seconds, in bay {bay}.")?;
     }
     Ok(())
 }
 
 fn foretell(rt: &HostRuntime, goal: u32) -> anyhow::Result<()> {
-    let played = Transfer::play(goal, &STRETCHES);
-    let last = played.pending.saturating_add(1);
-    match played.output {
-        Some(_) => println!(rt; "  By its length it will be through with stretch {last}.")?,
+    let Played { pending, output } = Transfer::play(goal, &STRETCHES);
+    match output {
+        Some(_) => {
+            let last = pending.saturating_add(1);
+            println!(rt; "  By its length it will be through with stretch {last}.")?;
+        }
         None => println!(rt; "  By its length these stretches will not do.")?,
     }
     Ok(())
 }
 
-fn play(rt: &HostRuntime, tape: Tape) -> anyhow::Result<()> {
-    let number = tape.number;
-    let goal = tape.seconds;
+fn play(rt: &HostRuntime, tape: &Tape) -> anyhow::Result<()> {
+    let Tape {
+        number,
+        seconds: goal,
+    } = *tape;
     println!(rt; "On the machine: tape {number}")?;
     foretell(rt, goal)?;
     let mut transfer = Transfer::start(goal);
     for stretch in STRETCHES {
-        if let Poll::Ready(recording) = transfer.poll(stretch) {
-            let seconds = recording.seconds;
-            let polls = recording.polls;
-            println!(rt;
-                "  Stretch {polls}: {seconds} of {goal} seconds played. The tape is through."
-            )?;
-            println!(rt;
-                "  Tape {number} is ready. Its recording: {seconds} seconds, polls: {polls}."
-            )?;
-            return Ok(());
+        match transfer.poll(stretch) {
+            Poll::Pending => {
+                let Transfer { seconds, polls, .. } = transfer;
+                println!(rt;
+                    "  Stretch {polls}: {seconds} of {goal} seconds played. There is more to play."
+                )?;
+            }
+            Poll::Ready(Recording { seconds, polls }) => {
+                println!(rt;
+                    "  Stretch {polls}: {seconds} of {goal} seconds played. The tape is through."
+                )?;
+                println!(rt;
+                    "  Tape {number} is ready. Its recording: {seconds} seconds, polls: {polls}."
+                )?;
+                return Ok(());
+            }
         }
-        let seconds = transfer.seconds;
-        let polls = transfer.polls;
-        println!(rt;
-            "  Stretch {polls}: {seconds} of {goal} seconds played. There is more to play."
-        )?;
     }
     println!(rt; "  Tape {number} is not through yet.")?;
     Ok(())
 }
 
-fn tell_put(rt: &HostRuntime, bay: u32, answer: Answer) -> anyhow::Result<()> {
-    match answer {
-        Answer::Accepted => println!(rt; "  Bay {bay} joins the queue for the machine.")?,
-        _ => println!(rt; "  Bay {bay} cannot join the queue.")?,
-    }
-    Ok(())
-}
-
-fn tell_take(rt: &HostRuntime, answer: Answer) -> anyhow::Result<()> {
-    let Answer::Gave(bay) = answer else {
-        println!(rt; "No bay waits.")?;
-        return Ok(());
-    };
-    println!(rt; "The machine takes bay {bay}, which has waited longest.")?;
-    if let Some(tape) = TAPES.get(bay as usize) {
-        play(rt, *tape)?;
-    }
-    Ok(())
-}
-
 fn tell(rt: &HostRuntime, answers: &[Answer]) -> anyhow::Result<()> {
-    for (request, answer) in DAY.iter().zip(answers.iter()) {
-        match *request {
-            Request::Put {
-                bay,
-                woken_while_running: _,
-            } => tell_put(rt, bay, *answer)?,
-            Request::Take => tell_take(rt, *answer)?,
+    for (request, answer) in DAY.iter().zip(answers) {
+        match (*request, *answer) {
+            (Request::Put { bay, .. }, Answer::Accepted(true)) => {
+                println!(rt; "  Bay {bay} joins the queue for the machine.")?
+            }
+            (Request::Put { bay, .. }, _) => println!(rt; "  Bay {bay} cannot join the queue.")?,
+            (Request::Take, Answer::Gave(Some(bay))) => {
+                println!(rt; "The machine takes bay {bay}, which has waited longest.")?;
+                if let Some(tape) = TAPES.get(bay as usize) {
+                    play(rt, tape)?;
+                }
+            }
+            (Request::Take, _) => println!(rt; "No bay waits.")?,
         }
     }
     Ok(())
 }
 
-fn run(rt: &HostRuntime) -> anyhow::Result<()> {
-    take_in(rt)?;
+fn main(rt: HostRuntime) -> anyhow::Result<()> {
+    take_in(&rt)?;
     let mut queue = Queue::new(rt.alloc(), TAPES.len())?;
     let mut answers = Vec::with_capacity(rt.alloc(), DAY.len())?;
     println!(rt; "In the queue")?;
     match queue.serve(&DAY, &mut answers) {
-        Ok(()) => tell(rt, answers.as_slice())?,
+        Ok(()) => tell(&rt, &answers)?,
         Err(Unserved::NotEmpty) => println!(rt; "  The queue was in use.")?,
         Err(Unserved::NoRoom) => println!(rt; "  There was no room for the answers.")?,
     }
     let waiting = queue.len();
     println!(rt; "Bays still in the queue: {waiting}")?;
     Ok(())
-}
-
-fn main(rt: HostRuntime) -> anyhow::Result<()> {
-    run(&rt)
 }
