@@ -1,6 +1,5 @@
 // One bay in a slot, before the bays of any policy.
 ghost use Rattle.std.specs.Prelude.{◌≡◌};
-ghost use Rattle.schedule.specs.Entries.{accepts};
 ghost use Rattle.layers.specs.Slots.{empty_slot, slot_entries, slot_places, slot_agrees, slot_after};
 ghost use Rattle.layers.specs.Kept.{slot_keeps};
 ghost use Rattle.std.proofs.Common.{rules};
@@ -22,12 +21,6 @@ impl<P: Schedule> Slot<P> {
         ensures agrees { P.Schedule.agrees below → slot_agrees P.Schedule result }
     {
         Slot { slot: None, below }
-    }
-
-    fn admits(&self, bay: u32) -> bool
-        ensures { result ≡ accepts bay (slot_entries P.Schedule self.now) (slot_places P.Schedule self.now) }
-    {
-        bay < 64 && !self.holds(bay) && self.len() < self.places()
     }
 }
 

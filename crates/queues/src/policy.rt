@@ -1,6 +1,5 @@
 // A line as a policy.
 ghost use Rattle.std.specs.Prelude.{◌≡◌, min, [], vec_capacity, IfOk, OnOk};
-ghost use Rattle.schedule.specs.Entries.{accepts};
 ghost use Rattle.schedule.specs.History.{history};
 ghost use Rattle.schedule.specs.Requests.{Serves, Refuses};
 ghost use Rattle.queues.specs.Ends.{joined, Order};
@@ -26,12 +25,6 @@ impl<E: End> Line<E> {
             places,
             end: PhantomData,
         })
-    }
-
-    fn admits(&self, bay: u32) -> bool
-        ensures { result ≡ accepts bay (in_line self.now) (line_places self.now) }
-    {
-        bay < 64 && !self.holds(bay) && self.bays.len() < self.places
     }
 
     // Carries out a list of requests on it while it is empty, as `schedule::serve` does.

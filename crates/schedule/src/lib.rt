@@ -54,6 +54,13 @@ pub trait Schedule {
     fn holds(&self, bay: u32) -> bool
         ensures { result ≡ is_in bay (entries self.now) };
 
+    // Whether a put of the bay would be accepted.
+    fn admits(&self, bay: u32) -> bool
+        ensures { result ≡ accepts bay (entries self.now) (places self.now) }
+    {
+        bay < 64 && !self.holds(bay) && self.len() < self.places()
+    }
+
     // a policy without entries agrees
     ghost fresh: { (s : Self) → entries s ≡ [] → agrees s };
 
