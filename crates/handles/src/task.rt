@@ -1,9 +1,9 @@
 // The Task: asks for the output, and cancels.
-ghost use Rattle.std.specs.Prelude.{◌≡◌, true, false};
 ghost use Rattle.cell.specs.declared.call.Call.TheVariants.{At};
 ghost use Rattle.rack.specs.Racks.{views, Stepped};
 ghost use Rattle.handles.specs.Handles.{Spends};
 
+use super::handle::Handle;
 use super::refused::Refused;
 use cell::call::Act;
 use cell::cell::Bay;
@@ -13,39 +13,12 @@ use rack::calls;
 use schedule::Schedule;
 
 // The Task of a bay, from its spawn on.
-pub struct Task {
-    bay: u32,
-    spent: bool,
-}
+pub type Task = Handle<ToAsk>;
 
-impl Drop for Task {
-    // A handle may be let go only when it is spent.
-    fn drop(self)
-        requires { self.spent ≡ true }
-    {
-        let Task { bay: _, spent: _ } = self;
-    }
-}
+// The kind of a Task: it asks for the output.
+pub enum ToAsk {}
 
 impl Task {
-    pub(crate) fn new(bay: u32) -> Self
-        ensures { result ≡ record { bay = bay; spent = false } }
-    {
-        Task { bay, spent: false }
-    }
-
-    // The number of its bay.
-    pub fn bay(&self) -> u32
-        ensures { result ≡ self.now.bay }
-    {
-        self.bay
-    }
-
-    // Spends the handle with no call: the rack still counts it as out.
-    pub fn forget(mut self) {
-        self.spent = true;
-    }
-
     // Asks for the output; the waiter is told when there is reason to ask again.
     pub fn poll_task<F: Future, S: Schedule>(
         &self,
@@ -55,7 +28,7 @@ impl Task {
     ) -> Result<Report<F::Output>, Fault>
         ensures { Stepped F.Future.step S.Schedule (views bays.old) policy.old (At self.now.bay (Act.PollTask waiter)) result (views bays.new) policy.new }
     {
-        calls::poll_task(bays, policy, self.bay, waiter)
+        calls::poll_task(bays, policy, self.bay(), waiter)
     }
 
     // Closes the task.
@@ -66,46 +39,30 @@ impl Task {
     ) -> Result<Report<F::Output>, Fault>
         ensures { Stepped F.Future.step S.Schedule (views bays.old) policy.old (At self.now.bay (Act.Cancel)) result (views bays.new) policy.new }
     {
-        calls::cancel(bays, policy, self.bay)
+        calls::cancel(bays, policy, self.bay())
     }
 
     // Lets the Task go; the task runs on by itself.
     pub fn detach<F: Future, S: Schedule>(
-        mut self,
+        self,
         bays: &mut [Bay<F, F::Output>],
         policy: &mut S,
     ) -> Result<Report<F::Output>, Refused<Task>>
-        ensures { Spends self (λ o. Stepped F.Future.step S.Schedule (views bays.old) policy.old (At self.bay (Act.Detach)) o (views bays.new) policy.new) result }
+        ensures { Spends self (λ r. r) (λ o. Stepped F.Future.step S.Schedule (views bays.old) policy.old (At self.bay (Act.Detach)) o (views bays.new) policy.new) result }
     {
-        match calls::detach(bays, policy, self.bay) {
-            Ok(report) => {
-                self.spent = true;
-                Ok(report)
-            }
-            Err(fault) => Err(Refused {
-                fault,
-                handle: self,
-            }),
-        }
+        let said = calls::detach(bays, policy, self.bay());
+        self.settle(said)
     }
 
     // Closes the task and lets the Task go.
     pub fn drop_task<F: Future, S: Schedule>(
-        mut self,
+        self,
         bays: &mut [Bay<F, F::Output>],
         policy: &mut S,
     ) -> Result<Report<F::Output>, Refused<Task>>
-        ensures { Spends self (λ o. Stepped F.Future.step S.Schedule (views bays.old) policy.old (At self.bay (Act.DropTask)) o (views bays.new) policy.new) result }
+        ensures { Spends self (λ r. r) (λ o. Stepped F.Future.step S.Schedule (views bays.old) policy.old (At self.bay (Act.DropTask)) o (views bays.new) policy.new) result }
     {
-        match calls::drop_task(bays, policy, self.bay) {
-            Ok(report) => {
-                self.spent = true;
-                Ok(report)
-            }
-            Err(fault) => Err(Refused {
-                fault,
-                handle: self,
-            }),
-        }
+        let said = calls::drop_task(bays, policy, self.bay());
+        self.settle(said)
     }
 }

@@ -1,113 +1,49 @@
 // A waker: wakes the task of its bay.
-ghost use Rattle.std.specs.Prelude.{◌≡◌, true, false};
 ghost use Rattle.cell.specs.declared.call.Call.TheVariants.{At};
 ghost use Rattle.rack.specs.Racks.{views, Stepped};
-ghost use Rattle.handles.specs.Handles.{Spends, Clones};
+ghost use Rattle.handles.specs.Handles.{Spends};
 
+use super::handle::{Clones, Handle, Wakes};
 use super::refused::Refused;
 use cell::call::Act;
 use cell::cell::Bay;
-use cell::report::{Fault, Report};
+use cell::report::Report;
 use jobs::Future;
 use rack::calls;
 use schedule::Schedule;
 
 // A waker of the task in a bay.
-pub struct Waker {
-    bay: u32,
-    spent: bool,
-}
+pub type Waker = Handle<ToWake>;
 
-impl Drop for Waker {
-    // A handle may be let go only when it is spent.
-    fn drop(self)
-        requires { self.spent ≡ true }
-    {
-        let Waker { bay: _, spent: _ } = self;
-    }
-}
+// The kind of a Waker.
+pub enum ToWake {}
+
+impl Clones for ToWake {}
+
+impl Wakes for ToWake {}
 
 impl Waker {
-    pub(crate) fn new(bay: u32) -> Self
-        ensures { result ≡ record { bay = bay; spent = false } }
-    {
-        Waker { bay, spent: false }
-    }
-
-    // The number of its bay.
-    pub fn bay(&self) -> u32
-        ensures { result ≡ self.now.bay }
-    {
-        self.bay
-    }
-
-    // Spends the handle with no call: the rack still counts it as out.
-    pub fn forget(mut self) {
-        self.spent = true;
-    }
-
-    // One waker more for its bay.
-    pub fn clone_waker<F: Future, S: Schedule>(
-        &self,
-        bays: &mut [Bay<F, F::Output>],
-        policy: &mut S,
-    ) -> Result<Waker, Fault>
-        ensures { Clones self.now.bay (λ o. Stepped F.Future.step S.Schedule (views bays.old) policy.old (At self.now.bay (Act.Clone)) o (views bays.new) policy.new) result }
-    {
-        match calls::clone(bays, policy, self.bay) {
-            Ok(_) => Ok(Waker::new(self.bay)),
-            Err(fault) => Err(fault),
-        }
-    }
-
-    // Wakes, and stays.
-    pub fn wake_by_ref<F: Future, S: Schedule>(
-        &self,
-        bays: &mut [Bay<F, F::Output>],
-        policy: &mut S,
-    ) -> Result<Report<F::Output>, Fault>
-        ensures { Stepped F.Future.step S.Schedule (views bays.old) policy.old (At self.now.bay (Act.WakeByRef)) result (views bays.new) policy.new }
-    {
-        calls::wake_by_ref(bays, policy, self.bay)
-    }
-
     // Wakes, and is spent.
     pub fn wake<F: Future, S: Schedule>(
-        mut self,
+        self,
         bays: &mut [Bay<F, F::Output>],
         policy: &mut S,
     ) -> Result<Report<F::Output>, Refused<Waker>>
-        ensures { Spends self (λ o. Stepped F.Future.step S.Schedule (views bays.old) policy.old (At self.bay (Act.Wake)) o (views bays.new) policy.new) result }
+        ensures { Spends self (λ r. r) (λ o. Stepped F.Future.step S.Schedule (views bays.old) policy.old (At self.bay (Act.Wake)) o (views bays.new) policy.new) result }
     {
-        match calls::wake(bays, policy, self.bay) {
-            Ok(report) => {
-                self.spent = true;
-                Ok(report)
-            }
-            Err(fault) => Err(Refused {
-                fault,
-                handle: self,
-            }),
-        }
+        let said = calls::wake(bays, policy, self.bay());
+        self.settle(said)
     }
 
     // Drops the waker.
     pub fn drop_waker<F: Future, S: Schedule>(
-        mut self,
+        self,
         bays: &mut [Bay<F, F::Output>],
         policy: &mut S,
     ) -> Result<Report<F::Output>, Refused<Waker>>
-        ensures { Spends self (λ o. Stepped F.Future.step S.Schedule (views bays.old) policy.old (At self.bay (Act.DropWaker)) o (views bays.new) policy.new) result }
+        ensures { Spends self (λ r. r) (λ o. Stepped F.Future.step S.Schedule (views bays.old) policy.old (At self.bay (Act.DropWaker)) o (views bays.new) policy.new) result }
     {
-        match calls::drop_waker(bays, policy, self.bay) {
-            Ok(report) => {
-                self.spent = true;
-                Ok(report)
-            }
-            Err(fault) => Err(Refused {
-                fault,
-                handle: self,
-            }),
-        }
+        let said = calls::drop_waker(bays, policy, self.bay());
+        self.settle(said)
     }
 }

@@ -1,0 +1,108 @@
+// The handle: a bay number that has to be spent. Its kind says which calls it has.
+ghost use Rattle.std.specs.Prelude.{◌≡◌, true, MatchResult};
+ghost use Rattle.cell.specs.declared.call.Call.TheVariants.{At};
+ghost use Rattle.rack.specs.Racks.{views, Stepped};
+ghost use Rattle.handles.specs.Handles.{unspent, Gives};
+
+use super::refused::Refused;
+use super::waker::Waker;
+use cell::call::Act;
+use cell::cell::Bay;
+use cell::report::{Fault, Report};
+use jobs::Future;
+use rack::calls;
+use schedule::Schedule;
+use std::marker::PhantomData;
+
+// A handle of the kind K. A kind has no values: it is there to say which calls the handle has.
+pub struct Handle<K> {
+    bay: u32,
+    spent: bool,
+    kind: PhantomData<K>,
+}
+
+// The kinds whose handles give a waker more.
+pub trait Clones {}
+
+// The kinds whose handles wake their task and stay.
+pub trait Wakes {}
+
+impl<K> Drop for Handle<K> {
+    // A handle may be let go only when it is spent.
+    fn drop(self)
+        requires { self.spent ≡ true }
+    {
+        let Handle {
+            bay: _,
+            spent: _,
+            kind: _,
+        } = self;
+    }
+}
+
+impl<K> Handle<K> {
+    pub(crate) fn new(bay: u32) -> Self
+        ensures { result ≡ unspent bay }
+    {
+        Handle {
+            bay,
+            spent: false,
+            kind: PhantomData,
+        }
+    }
+
+    // The number of its bay.
+    pub fn bay(&self) -> u32
+        ensures { result ≡ self.now.bay }
+    {
+        self.bay
+    }
+
+    // Spends the handle with no call: the rack still counts it as out.
+    pub fn forget(mut self) {
+        self.spent = true;
+    }
+
+    // Every call that spends a handle ends here: a report spends it, a fault gives it back as it is.
+    pub(crate) fn settle<T>(self, said: Result<T, Fault>) -> Result<T, Refused<Self>>
+        ensures { MatchResult said (λ x. result ≡ Ok x) (λ e. result ≡ Err (record { fault = e; handle = self })) }
+    {
+        match said {
+            Ok(report) => {
+                self.forget();
+                Ok(report)
+            }
+            Err(fault) => Err(Refused {
+                fault,
+                handle: self,
+            }),
+        }
+    }
+}
+
+impl<K: Clones> Handle<K> {
+    // One waker more for its bay.
+    pub fn clone_waker<F: Future, S: Schedule>(
+        &self,
+        bays: &mut [Bay<F, F::Output>],
+        policy: &mut S,
+    ) -> Result<Waker, Fault>
+        ensures { Gives (λ _. unspent self.now.bay) (λ o. Stepped F.Future.step S.Schedule (views bays.old) policy.old (At self.now.bay (Act.Clone)) o (views bays.new) policy.new) result }
+    {
+        calls::clone(bays, policy, self.bay)?;
+        Ok(Waker::new(self.bay))
+    }
+}
+
+impl<K: Wakes> Handle<K> {
+    // Wakes the task, and stays.
+    pub fn wake_by_ref<F: Future, S: Schedule>(
+        &self,
+        bays: &mut [Bay<F, F::Output>],
+        policy: &mut S,
+    ) -> Result<Report<F::Output>, Fault>
+        ensures { Stepped F.Future.step S.Schedule (views bays.old) policy.old (At self.now.bay (Act.WakeByRef)) result (views bays.new) policy.new }
+    {
+        calls::wake_by_ref(bays, policy, self.bay)
+    }
+}
