@@ -15,6 +15,7 @@ use schedule::Schedule;
 use std::marker::PhantomData;
 
 // A handle of the kind K. A kind has no values: it is there to say which calls the handle has.
+// There is no Model: clauses read both the bay and whether it is spent, which a Model could only rename.
 pub struct Handle<K> {
     bay: u32,
     spent: bool,
@@ -64,6 +65,7 @@ impl<K> Handle<K> {
     }
 
     // Every call that spends a handle ends here: a report spends it, a fault gives it back as it is.
+    // The call stands in a line before, since self is moved before the arguments are read.
     pub(crate) fn settle<T>(self, said: Result<T, Fault>) -> Result<T, Refused<Self>>
         ensures { MatchResult said (λ x. result ≡ Ok x) (λ e. result ≡ Err (record { fault = e; handle = self })) }
     {
