@@ -1,7 +1,9 @@
 -- What each call does to a cell, phase by phase.
-use Rattle.std.proofs.Common.{◌≡◌, ℕ, ◌+◌, ◌-◌, ◌<◌, ◌≤◌, min, Bool, true, false, cond, not, ◌&&◌, ◌||◌, eqb, leb, ◌⊎◌, is_some, Some, None, Ok, Err, Option, Result, sym, refl, ap, ◌∙◌, subst, inl, inr, add-zero, zero-add, arith}
+use Rattle.std.proofs.Common.{◌≡◌, ℕ, ◌+◌, ◌-◌, ◌<◌, ◌≤◌, min, Bool, true, false, cond, not, ◌&&◌, ◌||◌, eqb, leb, ◌⊎◌, is_some, Some, None, Ok, Option, Result, sym, refl, ap, ◌∙◌, subst, inl, inr, add-zero, zero-add, arith}
 use Rattle.std.proofs.lemmas.Bool.{cases_Bool, cond-true, cond-false, and_parts, and_left, and_right, or_right, ne_eqb, eqb-true, eqb-false, leb-false, not-true, not_from_true, not_from_false, false≢true, true≢false}
-use Rattle.jobs.specs.Step.{Step, pends, gives}
+use Rattle.std.specs.Option.{IfSome}
+use Rattle.std.specs.Result.{IfOk}
+use Rattle.polls.specs.Step.{Step, pends, gives}
 use Rattle.cell.specs.declared.call.Kind.TheVariants as kind
 use Rattle.cell.specs.declared.call.Act.{Act}
 use Rattle.cell.specs.declared.call.Act.TheVariants as act
@@ -20,9 +22,12 @@ use Rattle.cell.specs.declared.table.Supply.TheVariants.{OrHeld, OrRunning}
 use Rattle.cell.specs.Table.{act_kind, supplied}
 use Rattle.cell.specs.Registers.{advanced, from}
 use Rattle.cell.specs.Cells.{unheld}
-use Rattle.cell.specs.Keeps.{held}
-use Rattle.cell.specs.Steps.{Raw, Outcome, leaves, says, retired, polled, let_rest, registered, notified, parted, drop_task_step, followed, either, wake_by_ref_step, wake_step, drop_waker_step, cancel_step, detach_step, and_then}
-use Rattle.cell.specs.Acts.{Cell, word, Move, Keeps, is_waiting, spawned, moved, turned, barred, carried, acted, has_ended}
+use Rattle.cell.specs.Keeps.{held, Cell, word, Keeps}
+use Rattle.cell.specs.Steps.{leaves, says, retired, polled, let_rest, registered, notified, parted, drop_task_step, followed, either, wake_by_ref_step, wake_step, drop_waker_step, cancel_step, detach_step, and_then}
+use Rattle.cell.specs.declared.raw.RawTask.{RawTask}
+use Rattle.cell.specs.declared.raw.Outcome.{Outcome}
+use Rattle.cell.specs.Acts.{is_waiting, spawned, moved, turned, barred, carried, acted, has_ended}
+use Rattle.cell.specs.declared.act.Move.{Move}
 use Rattle.cell.specs.Events.{not_for_policy, waits, weight, whereabouts, delivers, hands_out, takes_back, task_after, polled_with, awake_after, asked_after}
 use Rattle.cell.proofs.Phases.{Phase, idle, hand, wait, begun, pending, ready, done, over, stage_of, content_of, word_at, cell_at, Allowed, Is, is_kept, kept_is}
 use Rattle.cell.proofs.Rows.{alert, spent, after_step, Follows, HandsOver, Goes, Ends, Does, denied, goes, ends, settle}
@@ -45,24 +50,9 @@ unwoken true x = refl
 unwoken false true = refl
 unwoken false false = refl
 
--- moves that are told apart
-module _ {F O : Type 0} where
-  abbrev bay_in : Result (Move F O) Fault → Option (Cell F O)
-  bay_in (Ok m) = m.bay
-  bay_in (Err e) = None
-
-  no_move : (e : Fault) (m : Move F O) → Err e ≡ Ok m → ⊥
-  no_move e m p = let o : ◌≡◌ {A = ℕ} 0 1 = cc in omega arith
-
-  no_cell : (c : Cell F O) (r r' : Report O) → ◌≡◌ {A = Result (Move F O) Fault} (Ok (record { bay = None; report = r })) (Ok (record { bay = Some c; report = r' })) → ⊥
-  no_cell c r r' p = let q : None ≡ Some c = ap bay_in p in let o : ◌≡◌ {A = ℕ} 0 1 = cc in omega arith
-
-  same_bay : (c c' : Cell F O) (r r' : Report O) → ◌≡◌ {A = Result (Move F O) Fault} (Ok (record { bay = Some c; report = r })) (Ok (record { bay = Some c'; report = r' })) → c ≡ c'
-  same_bay c c' r r' p = let q : Some c ≡ Some c' = ap bay_in p in cc
-
 module _ {F O : Type 0} (step : F → ℕ → Step F O) where
   -- the task of a cell in a phase
-  abbrev raw_at : Phase F O → Bool → Option ℕ → ℕ → Raw F O
+  abbrev raw_at : Phase F O → Bool → Option ℕ → ℕ → RawTask F O
   raw_at ph t w n = record { header = record { state = word_at ph t (is_some w) n; awaiter = w }; content = content_of ph }
 
   standing : (ph : Phase F O) (t : Bool) (m : ℕ) (w : Option ℕ) (n : ℕ) → n ≡ m + held (stage_of ph) → Allowed ph t w → m ≤ 65535 → Is (cell_at ph t m w n)
@@ -138,7 +128,6 @@ module _ {F O : Type 0} (step : F → ℕ → Step F O) where
           let z : held (stage_of ph') ≡ 0 = ap held y.gone in
           let k = ap (λ r. r.wakers) y.next in
           let b = y.back in
-          let o = y.out in
           record {
             is = subst Is (sym now) (standing ph' t m None (n - 1) (omega arith) y.allowed l);
             stays = h;
@@ -161,8 +150,6 @@ module _ {F O : Type 0} (step : F → ℕ → Step F O) where
           let p = and_parts (eqb (n - 1) 0) (not t) h in
           let z = eqb-true (n - 1) 0 p.0 in
           let q : t ≡ false = not-true t p.1 in
-          let b = y.back in
-          let o = y.out in
           let v = y.empty q in
           let u = y.balance (ended fate x t w n) refl refl in
           record {
@@ -431,7 +418,6 @@ module _ {F O : Type 0} (step : F → ℕ → Step F O) where
       → (is_some p && waits (stage_of ph)) ≡ false
       → Goes step a (cell_at ph t m w n) (cell_at ph' t' m' w' n') (reported p fate v)
   plain a y ph ph' t m w n t' m' w' n' p fate v e al l stage task wakers live content waiter told woken balance once =
-      let o = y.out in
       record {
         is = standing ph' t' m' w' n' e al l;
         stays = refl;
@@ -725,9 +711,31 @@ module _ {F O : Type 0} (step : F → ℕ → Step F O) where
       report_is : ◌≡◌ {A = Outcome F O} (leaves (raw_at ph' false None n') (record { answer = answer.Done; put = either p None; fate = Kept; woken = either w None; cleared = eqb n' 0 })) (leaves (raw_at ph' false None n') (reported p Kept w))
       report_is = let a = either_none p in let b = either_none w in let c = y.some in rw (a, b, c) refl
 
-  -- the open phases
-  idle_closes : (f : F) (m n : ℕ) → n ≡ m + 0 → m ≤ 65535 → Closes (idle f) (wait true f) (Some false) m n (min (n + 1) 16777215)
-  idle_closes f m n e l = record {
+  -- what cancel does to a task: it closes an open one, or leaves it as it is
+  data Cancels (ph : Phase F O) (m n : ℕ) : Type 0 where
+    closes : (ph' : Phase F O) (p : Option Bool) (n' : ℕ) → Closes ph ph' p m n n' → Cancels ph m n
+    spares : ((w : Option ℕ) → cancel_step (raw_at ph true w n) ≡ leaves (raw_at ph true w n) (says answer.Done)) → Cancels ph m n
+
+  -- where a Runnable exists, it stays where it is
+  marks : (ph ph' : Phase F O) (m n : ℕ) → n ≡ m + 1 → held (stage_of ph') ≡ 1 → stage_of ph' ≡ stage_of ph → content_of ph' ≡ content_of ph
+      → ((w : Option ℕ) → cancel_step (raw_at ph true w n) ≡ notified (raw_at ph' true w n) None)
+      → detach_step (raw_at ph' true None n) ≡ leaves (raw_at ph' false None n) (record { answer = answer.Done; put = None; fate = Kept; woken = None; cleared = eqb n 0 })
+      → ((t : Bool) → Allowed ph' t None) → ((b t : Bool) → alert b (cell_at ph' t m None n) ≡ true) → Cancels ph m n
+  marks ph ph' m n e one stage content step_is parts_is allowed calm' = closes ph' None n (record {
+    step_is = step_is;
+    parts_is = parts_is;
+    counted = omega arith;
+    some = ne_eqb n 0 (omega arith);
+    allowed = allowed;
+    next = from_same (stage_of ph) ∙ sym stage;
+    stage = stage;
+    content = content;
+    calm' = calm';
+    once = refl;
+  })
+
+  cancels : (ph : Phase F O) (m n : ℕ) → n ≡ m + held (stage_of ph) → m ≤ 65535 → Cancels ph m n
+  cancels (idle f) m n e l = closes (wait true f) (Some false) (min (n + 1) 16777215) (record {
     step_is = λ w. refl;
     parts_is = refl;
     counted = omega arith;
@@ -738,77 +746,19 @@ module _ {F O : Type 0} (step : F → ℕ → Step F O) where
     content = refl;
     calm' = λ b t. refl;
     once = refl;
-  }
-
-  hand_closes : (f : F) (m n : ℕ) → n ≡ m + 1 → Closes (hand false f) (hand true f) None m n n
-  hand_closes f m n e = record {
-    step_is = λ w. refl;
-    parts_is = refl;
-    counted = e;
-    some = ne_eqb n 0 (omega arith);
-    allowed = λ t. tt;
-    next = refl;
-    stage = refl;
-    content = refl;
-    calm' = λ b t. refl;
-    once = refl;
-  }
-
-  wait_closes : (f : F) (m n : ℕ) → n ≡ m + 1 → Closes (wait false f) (wait true f) None m n n
-  wait_closes f m n e = record {
-    step_is = λ w. refl;
-    parts_is = refl;
-    counted = e;
-    some = ne_eqb n 0 (omega arith);
-    allowed = λ t. tt;
-    next = refl;
-    stage = refl;
-    content = refl;
-    calm' = λ b t. refl;
-    once = refl;
-  }
-
-  begun_closes : (s : Bool) (f : F) (m n : ℕ) → n ≡ m + 1 → Closes (begun s false f) (begun s true f) None m n n
-  begun_closes s f m n e = record {
-    step_is = λ w. refl;
-    parts_is = refl;
-    counted = e;
-    some = ne_eqb n 0 (omega arith);
-    allowed = λ t. tt;
-    next = refl;
-    stage = refl;
-    content = refl;
-    calm' = λ b t. refl;
-    once = refl;
-  }
-
-  pending_closes : (s : Bool) (f : F) (m n : ℕ) → n ≡ m + 1 → Closes (pending s false f) (pending s true f) None m n n
-  pending_closes s f m n e = record {
-    step_is = λ w. refl;
-    parts_is = refl;
-    counted = e;
-    some = ne_eqb n 0 (omega arith);
-    allowed = λ t. tt;
-    next = refl;
-    stage = refl;
-    content = refl;
-    calm' = λ b t. or_right s _ refl;
-    once = refl;
-  }
-
-  ready_closes : (s : Bool) (o : O) (m n : ℕ) → n ≡ m + 1 → Closes (ready s false o) (ready s true o) None m n n
-  ready_closes s o m n e = record {
-    step_is = λ w. refl;
-    parts_is = refl;
-    counted = e;
-    some = ne_eqb n 0 (omega arith);
-    allowed = λ t. tt;
-    next = refl;
-    stage = refl;
-    content = refl;
-    calm' = λ b t. or_right s _ refl;
-    once = refl;
-  }
+  })
+  cancels (hand true f) m n e l = spares (λ w. refl)
+  cancels (hand false f) m n e l = marks (hand false f) (hand true f) m n e refl refl refl (λ w. refl) refl (λ t. tt) (λ b t. refl)
+  cancels (wait true f) m n e l = spares (λ w. refl)
+  cancels (wait false f) m n e l = marks (wait false f) (wait true f) m n e refl refl refl (λ w. refl) refl (λ t. tt) (λ b t. refl)
+  cancels (begun s true f) m n e l = spares (λ w. refl)
+  cancels (begun s false f) m n e l = marks (begun s false f) (begun s true f) m n e refl refl refl (λ w. refl) refl (λ t. tt) (λ b t. refl)
+  cancels (pending s true f) m n e l = spares (λ w. refl)
+  cancels (pending s false f) m n e l = marks (pending s false f) (pending s true f) m n e refl refl refl (λ w. refl) refl (λ t. tt) (λ b t. or_right s _ refl)
+  cancels (ready s true o) m n e l = spares (λ w. refl)
+  cancels (ready s false o) m n e l = marks (ready s false o) (ready s true o) m n e refl refl refl (λ w. refl) refl (λ t. tt) (λ b t. or_right s _ refl)
+  cancels (done o) m n e l = spares (λ w. refl)
+  cancels (over c) m n e l = spares (λ w. refl)
 
   -- a task that is not open stays as it is
   cancel_shut : (ph : Phase F O) (m : ℕ) (w : Option ℕ) (n : ℕ) → n ≡ m + held (stage_of ph) → Allowed ph true w → m ≤ 65535 → Turns act.Cancel ph true m w n (leaves (raw_at ph true w n) (says answer.Done))
@@ -818,19 +768,10 @@ module _ {F O : Type 0} (step : F → ℕ → Step F O) where
 
   cancel_does : (ph : Phase F O) (t : Bool) (m : ℕ) (w : Option ℕ) (n : ℕ) → n ≡ m + held (stage_of ph) → Allowed ph t w → m ≤ 65535 → DoesAt act.Cancel ph t m w n
   cancel_does ph false m w n e al l = denied fault.NoTask refl
-  cancel_does (idle f) true m w n e al l = cancel_open (idle f) (wait true f) (Some false) m w n (min (n + 1) 16777215) l (idle_closes f m n e l)
-  cancel_does (hand true f) true m w n e al l = cancel_shut (hand true f) m w n e al l
-  cancel_does (hand false f) true m w n e al l = cancel_open (hand false f) (hand true f) None m w n n l (hand_closes f m n e)
-  cancel_does (wait true f) true m w n e al l = cancel_shut (wait true f) m w n e al l
-  cancel_does (wait false f) true m w n e al l = cancel_open (wait false f) (wait true f) None m w n n l (wait_closes f m n e)
-  cancel_does (begun s true f) true m w n e al l = cancel_shut (begun s true f) m w n e al l
-  cancel_does (begun s false f) true m w n e al l = cancel_open (begun s false f) (begun s true f) None m w n n l (begun_closes s f m n e)
-  cancel_does (pending s true f) true m w n e al l = cancel_shut (pending s true f) m w n e al l
-  cancel_does (pending s false f) true m w n e al l = cancel_open (pending s false f) (pending s true f) None m w n n l (pending_closes s f m n e)
-  cancel_does (ready s true o) true m w n e al l = cancel_shut (ready s true o) m w n e al l
-  cancel_does (ready s false o) true m w n e al l = cancel_open (ready s false o) (ready s true o) None m w n n l (ready_closes s o m n e)
-  cancel_does (done o) true m w n e al l = cancel_shut (done o) m w n e al l
-  cancel_does (over c) true m w n e al l = cancel_shut (over c) m w n e al l
+  cancel_does ph true m w n e al l = elim (cancels ph m n e l) [
+    | closes ph' p n' y ↦ cancel_open ph ph' p m w n n' l y
+    | spares q ↦ subst (Turns act.Cancel ph true m w n) (sym (q w)) (cancel_shut ph m w n e al l)
+  ]
 
   -- detach and drop_task let the Task go
   record Parts (a : Act) : Type 0 where
@@ -891,7 +832,6 @@ module _ {F O : Type 0} (step : F → ℕ → Step F O) where
           | inl h ↦
               (let z = eqb-true n 0 h in
               let b = y.back in
-              let o = y.moves.out in
               subst (λ k. Turns a ph true m None n (leaves (raw_at (over c) false None n) (record { answer = answer.Done; put = None; fate = fate; woken = None; cleared = k }))) (sym h)
               (ends _ (record {
                 clears = refl;
@@ -933,19 +873,10 @@ module _ {F O : Type 0} (step : F → ℕ → Step F O) where
 
   drop_task_does : (ph : Phase F O) (t : Bool) (m : ℕ) (w : Option ℕ) (n : ℕ) → n ≡ m + held (stage_of ph) → Allowed ph t w → m ≤ 65535 → DoesAt act.DropTask ph t m w n
   drop_task_does ph false m w n e al l = denied fault.NoTask refl
-  drop_task_does (idle f) true m w n e al l = drop_open (idle f) (wait true f) (Some false) m w n (min (n + 1) 16777215) l (idle_closes f m n e l)
-  drop_task_does (hand true f) true m w n e al l = part_turn act.DropTask drop_task_parts (hand true f) m w n e al l
-  drop_task_does (hand false f) true m w n e al l = drop_open (hand false f) (hand true f) None m w n n l (hand_closes f m n e)
-  drop_task_does (wait true f) true m w n e al l = part_turn act.DropTask drop_task_parts (wait true f) m w n e al l
-  drop_task_does (wait false f) true m w n e al l = drop_open (wait false f) (wait true f) None m w n n l (wait_closes f m n e)
-  drop_task_does (begun s true f) true m w n e al l = part_turn act.DropTask drop_task_parts (begun s true f) m w n e al l
-  drop_task_does (begun s false f) true m w n e al l = drop_open (begun s false f) (begun s true f) None m w n n l (begun_closes s f m n e)
-  drop_task_does (pending s true f) true m w n e al l = part_turn act.DropTask drop_task_parts (pending s true f) m w n e al l
-  drop_task_does (pending s false f) true m w n e al l = drop_open (pending s false f) (pending s true f) None m w n n l (pending_closes s f m n e)
-  drop_task_does (ready s true o) true m w n e al l = part_turn act.DropTask drop_task_parts (ready s true o) m w n e al l
-  drop_task_does (ready s false o) true m w n e al l = drop_open (ready s false o) (ready s true o) None m w n n l (ready_closes s o m n e)
-  drop_task_does (done o) true m w n e al l = part_turn act.DropTask drop_task_parts (done o) m w n e al l
-  drop_task_does (over c) true m w n e al l = part_turn act.DropTask drop_task_parts (over c) m w n e al l
+  drop_task_does ph true m w n e al l = elim (cancels ph m n e l) [
+    | closes ph' p n' y ↦ drop_open ph ph' p m w n n' l y
+    | spares q ↦ subst (λ z. Turns act.DropTask ph true m w n (and_then z detach_step)) (sym (q w)) (part_turn act.DropTask drop_task_parts ph m w n e al l)
+  ]
 
   does_at : (a : Act) (ph : Phase F O) (t : Bool) (m : ℕ) (w : Option ℕ) (n : ℕ) → n ≡ m + held (stage_of ph) → Allowed ph t w → m ≤ 65535 → DoesAt a ph t m w n
   does_at act.Schedule ph t m w n e al l = schedule_does ph t m w n e l
@@ -969,12 +900,15 @@ module _ {F O : Type 0} (step : F → ℕ → Step F O) where
   -- and so a cell that stays keeps what every cell keeps
   pub act_keeps : (a : Act) (c : Cell F O) → Keeps c → (y : Outcome F O) → y ≡ turned step a c.task → barred a c.register (word c).count ≡ None → y.report.cleared ≡ false
       → Keeps (record { task = y.task; register = advanced c.register (act_kind a) (is_some y.report.put) (has_ended y.report.answer) })
-  act_keeps a c k y q b h = from (does a c (kept_is c k)) _ (ap (λ o. carried o (moved c.register a (turned step a c.task))) b ∙ ap (λ z. Ok (moved c.register a z)) (sym q) ∙ ap (λ x. Ok (record { bay = x; report = y.report })) (cond-false _ _ _ h))
+  act_keeps a c k y q b h =
+      subst (λ x. IfOk x (λ m. IfSome m.bay Keeps))
+      (ap (λ o. carried o (moved c.register a (turned step a c.task))) b ∙ ap (λ z. Ok (moved c.register a z)) (sym q) ∙ ap (λ x. Ok (record { bay = x; report = y.report })) (cond-false _ _ _ h))
+      (left (does a c (kept_is c k)))
     where
-      from : {x : Result (Move F O) Fault} → Does step a c x → (c' : Cell F O) → x ≡ Ok (record { bay = Some c'; report = y.report }) → Keeps c'
-      from (denied e z) c' p = absurd (no_move e (record { bay = Some c'; report = y.report }) p)
-      from (goes c₁ r g) c' p = subst Keeps (same_bay c₁ c' r y.report p) (is_kept c₁ g.is)
-      from (ends r g) c' p = absurd (no_cell c' r y.report p)
+      left : {x : Result (Move F O) Fault} → Does step a c x → IfOk x (λ m. IfSome m.bay Keeps)
+      left (denied e z) = tt
+      left (goes c' r g) = is_kept c' g.is
+      left (ends r g) = tt
 
 module _ {F O : Type 0} where
   -- the cell with its Runnable in hand, where it waits

@@ -1,13 +1,12 @@
 -- The phases of a task's life, and the cell that each phase is.
 use Rattle.std.proofs.Common.{◌≡◌, ℕ, ◌+◌, ◌≤◌, Bool, true, false, cond, not, ◌&&◌, ◌||◌, is_some, Some, None, Option, sym, refl, ap, ◌∙◌, subst}
 use Rattle.std.proofs.lemmas.Bool.{and_from, and_parts, not-true, false≢true, true≢false}
-use Rattle.word.specs.Words.{Word}
+use Rattle.bits.specs.Words.{Word}
 use Rattle.cell.specs.declared.register.Stage.{Stage}
 use Rattle.cell.specs.declared.register.Stage.TheVariants.{Gone, InHand, Waiting, Begun, Polled}
 use Rattle.cell.specs.declared.raw.Content.{Content}
 use Rattle.cell.specs.declared.raw.Content.TheVariants.{Future, Output, Empty}
-use Rattle.cell.specs.Keeps.{is_future, is_output, is_empty, is_polled, exists, held, runs, same, flags_agree, ends_agree, content_agrees}
-use Rattle.cell.specs.Acts.{Cell, word, Keeps}
+use Rattle.cell.specs.Keeps.{is_future, is_output, is_empty, is_polled, exists, held, runs, same, flags_agree, ends_agree, content_agrees, Cell, word, Keeps}
 
 pub data Phase (F O : Type 0) : Type 0 where
   -- open, without a Runnable

@@ -1,8 +1,8 @@
 -- What a call does to a cell, in terms of the call and its report.
 use Rattle.std.proofs.Common.{◌≡◌, ℕ, ◌+◌, Bool, true, false, not, ◌&&◌, ◌||◌, ◌⊎◌, is_some, Some, None, Ok, Err, Option, Result}
 use Rattle.std.proofs.lemmas.Bool.{cond_both}
-use Rattle.jobs.specs.Step.{Step, pends, gives}
-use Rattle.word.specs.Words.{still_open}
+use Rattle.polls.specs.Step.{Step, pends, gives}
+use Rattle.bits.specs.Words.{still_open}
 use Rattle.cell.specs.declared.call.Act.{Act}
 use Rattle.cell.specs.declared.register.Stage.TheVariants.{Gone}
 use Rattle.cell.specs.declared.report.Fault.{Fault}
@@ -12,8 +12,10 @@ use Rattle.cell.specs.declared.raw.Content.TheVariants.{Future, Output, Empty}
 use Rattle.cell.specs.Table.{act_kind}
 use Rattle.cell.specs.Registers.{advanced}
 use Rattle.cell.specs.Cells.{unheld}
-use Rattle.cell.specs.Steps.{Outcome}
-use Rattle.cell.specs.Acts.{Cell, word, Move, moved, has_ended}
+use Rattle.cell.specs.declared.raw.Outcome.{Outcome}
+use Rattle.cell.specs.Acts.{moved, has_ended}
+use Rattle.cell.specs.Keeps.{Cell, word}
+use Rattle.cell.specs.declared.act.Move.{Move}
 use Rattle.cell.specs.Events.{not_for_policy, waits, to_run, weight, whereabouts, delivers, delivered, outputs_dropped, futures_dropped, futures_lost, hands_out, takes_back, task_after, polled_with, awake_after, asked_after}
 use Rattle.cell.proofs.Phases.{Is}
 

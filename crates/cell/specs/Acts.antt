@@ -1,7 +1,7 @@
 -- A call on the cell of a bay: its tests, its step, and the move of the register.
-use Rattle.std.specs.Prelude.{◌≡◌, ℕ, ◌+◌, ◌≤◌, Bool, true, false, cond, is_some, Some, None, Ok, Err, Option, Result, ◌==◌}
-use Rattle.word.specs.Words.{Word, read}
-use Rattle.jobs.specs.Step.{Step}
+use Rattle.std.specs.Prelude.{ℕ, Bool, true, false, cond, is_some, Some, None, Ok, Err, Option, Result, ◌==◌}
+use Rattle.bits.specs.Words.{read}
+use Rattle.polls.specs.Step.{Step}
 use Rattle.cell.specs.declared.call.Act.{Act}
 use Rattle.cell.specs.declared.call.Act.TheVariants as act
 use Rattle.cell.specs.declared.register.Register.{Register}
@@ -9,55 +9,20 @@ use Rattle.cell.specs.declared.call.Kind.TheVariants as kind
 use Rattle.cell.specs.declared.register.Stage.{Stage}
 use Rattle.cell.specs.declared.register.Stage.TheVariants.{InHand, Waiting}
 use Rattle.cell.specs.declared.report.Fault.{Fault}
-use Rattle.cell.specs.declared.report.Report.{Report}
 use Rattle.cell.specs.declared.report.Answer.{Answer}
 use Rattle.cell.specs.declared.raw.Content.TheVariants.{Future}
 use Rattle.cell.specs.declared.table.Row.{Row}
-use Rattle.cell.specs.declared.cell.Cell as declared
-use Rattle.cell.specs.declared.cell.Bay.{Bay}
-use Rattle.cell.specs.declared.cell.Bay.TheVariants.{Vacant, Occupied}
-use Rattle.cell.specs.declared.act.Move as moving
+use Rattle.cell.specs.declared.raw.RawTask.{RawTask}
+use Rattle.cell.specs.declared.raw.Outcome.{Outcome}
+use Rattle.cell.specs.declared.act.Move.{Move}
 use Rattle.cell.specs.Numbers.{answer_number, stage_number}
 use Rattle.cell.specs.Table.{kind_code, act_kind, row_of, refused}
 use Rattle.cell.specs.Registers.{advanced}
-use Rattle.cell.specs.Keeps.{held, agrees}
-use Rattle.cell.specs.Steps.{Raw, raw_of, Outcome, schedule_step, begin_step, poll_step, finish_step, drop_runnable_step, clone_step, wake_by_ref_step, wake_step, drop_waker_step, poll_task_step, cancel_step, detach_step, drop_task_step}
-
--- a task and the register of its handles
-pub record Cell (F O : Type 0) : Type 0 where
-  pub task : Raw F O
-  pub register : Register
-
--- the cell's state word
-abbrev pub word : {F O : Type 0} → Cell F O → Word
-word c = c.task.header.state
-
-abbrev pub cell_of : {F O : Type 0} → declared.Cell F O → Cell F O
-cell_of c = record { task = raw_of c.task; register = c.register }
-
--- what every cell keeps
-abbrev pub Keeps : {F O : Type 0} → Cell F O → Type 0
-Keeps c =
-    (c.register.wakers ≤ 65535)
-    × ((word c).count ≡ c.register.wakers + held c.register.stage)
-    × (agrees c.task c.register ≡ true)
-
--- what is in a bay: nothing, or a cell
-abbrev pub bay_of : {F O : Type 0} → Bay F O → Option (Cell F O)
-bay_of Vacant = None
-bay_of (Occupied c) = Some (cell_of c)
-
--- what becomes of a bay, and the report
-pub record Move (F O : Type 0) : Type 0 where
-  pub bay : Option (Cell F O)
-  pub report : Report O
-
-abbrev pub move_of : {F O : Type 0} → Result (moving.Move F O) Fault → Result (Move F O) Fault
-move_of (Ok m) = Ok (record { bay = bay_of m.bay; report = m.report })
-move_of (Err e) = Err e
+use Rattle.cell.specs.Keeps.{Cell, word}
+use Rattle.cell.specs.Steps.{schedule_step, begin_step, poll_step, finish_step, drop_runnable_step, clone_step, wake_by_ref_step, wake_step, drop_waker_step, poll_task_step, cancel_step, detach_step, drop_task_step}
 
 -- the step of each call
-abbrev pub turned : {F O : Type 0} → (F → ℕ → Step F O) → Act → Raw F O → Outcome F O
+abbrev pub turned : {F O : Type 0} → (F → ℕ → Step F O) → Act → RawTask F O → Outcome F O
 turned step act.Schedule t = schedule_step t
 turned step act.Begin t = begin_step t
 turned step (act.Poll w) t = poll_step step w t
@@ -113,7 +78,3 @@ is_waiting s = stage_number s == stage_number Waiting
 -- take: a cell whose Runnable waits, with its Runnable in hand
 abbrev pub taken : {F O : Type 0} → Cell F O → Option (Cell F O)
 taken c = cond (is_waiting c.register.stage) (Some (record { task = c.task; register = advanced c.register kind.Take false false })) None
-
-abbrev pub cell_in : {F O : Type 0} → Option (declared.Cell F O) → Option (Cell F O)
-cell_in None = None
-cell_in (Some c) = Some (cell_of c)

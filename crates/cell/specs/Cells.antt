@@ -1,30 +1,22 @@
--- A task cell by its parts.
+-- What becomes of a header: its state word and its waiter.
 use Rattle.std.specs.Prelude.{ℕ, Bool, cond, not, ◌&&◌, None, Option, ◌==◌}
-use Rattle.word.specs.State.{awaiter}
-use Rattle.word.specs.Words.{Word, read, clearing, released}
+use Rattle.bits.specs.State.{awaiter}
+use Rattle.bits.specs.Words.{Word, clearing, released}
 use Rattle.cell.specs.declared.header.Header.{Header}
 
--- the state word and the waiter
-pub record Head : Type 0 where
-  pub state : Word
-  pub awaiter : Option ℕ
-
-abbrev pub head_of : Header → Head
-head_of h = record { state = read h.state; awaiter = h.awaiter }
-
 -- the same with another word
-abbrev pub with_state : Word → Head → Head
+abbrev pub with_state : Word → Header → Header
 with_state w h = record { state = w; awaiter = h.awaiter }
 
 -- Telling: if AWAITER is set, the waiter is told and goes, and AWAITER is cleared.
-abbrev pub told : Head → Option ℕ
+abbrev pub told : Header → Option ℕ
 told h = cond h.state.awaiter h.awaiter None
 
-abbrev pub untold : Head → Head
+abbrev pub untold : Header → Header
 untold h = cond h.state.awaiter (record { state = clearing awaiter h.state; awaiter = None }) h
 
 -- one reference less
-abbrev pub letting_go : Head → Head
+abbrev pub letting_go : Header → Header
 letting_go h = with_state (released h.state) h
 
 -- no reference is left, and no Task

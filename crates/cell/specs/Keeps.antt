@@ -1,12 +1,12 @@
 -- What every task cell keeps.
-use Rattle.std.specs.Prelude.{ℕ, Bool, true, false, cond, not, ◌&&◌, ◌||◌, is_some, Option}
-use Rattle.word.specs.Words.{Word}
+use Rattle.std.specs.Prelude.{◌≡◌, ℕ, ◌+◌, ◌≤◌, Bool, true, false, cond, not, ◌&&◌, ◌||◌, is_some, Option}
+use Rattle.bits.specs.Words.{Word}
 use Rattle.cell.specs.declared.register.Stage.{Stage}
 use Rattle.cell.specs.declared.register.Stage.TheVariants.{Gone, InHand, Waiting, Begun, Polled}
 use Rattle.cell.specs.declared.register.Register.{Register}
 use Rattle.cell.specs.declared.raw.Content.{Content}
 use Rattle.cell.specs.declared.raw.Content.TheVariants.{Future, Output, Empty}
-use Rattle.cell.specs.Steps.{Raw}
+use Rattle.cell.specs.declared.raw.RawTask.{RawTask}
 
 -- a Runnable exists
 abbrev pub exists : Stage → Bool
@@ -80,7 +80,24 @@ content_agrees w s x =
     (cond (not (exists s) && w.closed) (is_empty x)
     (is_future x || (is_output x && is_polled s)))
 
-abbrev pub agrees : {F O : Type 0} → Raw F O → Register → Bool
+abbrev pub agrees : {F O : Type 0} → RawTask F O → Register → Bool
 agrees t r =
     flags_agree t.header.state t.header.awaiter r
     && (ends_agree t.header.state r && content_agrees t.header.state r.stage t.content)
+
+-- a task and the register of its handles
+pub record Cell (F O : Type 0) : Type 0 where
+  pub task : RawTask F O
+  pub register : Register
+
+-- the cell's state word
+abbrev pub word : {F O : Type 0} → Cell F O → Word
+word c = c.task.header.state
+
+-- What every cell keeps: at most 65535 wakers are out, the count is the wakers and the Runnable, and flags, waiter, content
+-- and register agree.
+abbrev pub Keeps : {F O : Type 0} → Cell F O → Type 0
+Keeps c =
+    (c.register.wakers ≤ 65535)
+    × ((word c).count ≡ c.register.wakers + held c.register.stage)
+    × (agrees c.task c.register ≡ true)

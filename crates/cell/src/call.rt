@@ -5,21 +5,21 @@ ghost use Rattle.cell.specs.Table.{kind_code, act_kind};
 // Which of the fifteen.
 #[derive(Clone, Copy)]
 pub enum Kind {
-    Spawn,
-    Schedule,
-    Take,
-    Begin,
-    Poll,
-    Finish,
-    DropRunnable,
-    Clone,
-    WakeByRef,
-    Wake,
-    DropWaker,
-    PollTask,
-    Cancel,
-    Detach,
-    DropTask,
+    Spawn = 1,
+    Schedule = 2,
+    Take = 3,
+    Begin = 4,
+    Poll = 5,
+    Finish = 6,
+    DropRunnable = 7,
+    Clone = 8,
+    WakeByRef = 9,
+    Wake = 10,
+    DropWaker = 11,
+    PollTask = 12,
+    Cancel = 13,
+    Detach = 14,
+    DropTask = 15,
 }
 
 // What may be asked of the cell of a bay.
@@ -51,35 +51,20 @@ pub enum Call<F> {
 }
 
 impl Kind {
-    // The code of a call in scripts.
+    // The code of a call in scripts; the discriminants are the codes.
     pub fn code(self) -> u8
         ensures { result ≡ kind_code self }
     {
-        match self {
-            Kind::Spawn => 1,
-            Kind::Schedule => 2,
-            Kind::Take => 3,
-            Kind::Begin => 4,
-            Kind::Poll => 5,
-            Kind::Finish => 6,
-            Kind::DropRunnable => 7,
-            Kind::Clone => 8,
-            Kind::WakeByRef => 9,
-            Kind::Wake => 10,
-            Kind::DropWaker => 11,
-            Kind::PollTask => 12,
-            Kind::Cancel => 13,
-            Kind::Detach => 14,
-            Kind::DropTask => 15,
-        }
+        self as u8
     }
 }
 
-impl Act {
-    pub fn kind(self) -> Kind
-        ensures { result ≡ act_kind self }
-    {
-        match self {
+// What a call on a cell is, without its arguments.
+impl From<Act> for Kind {
+    ghost from_gives = { λ act kind. kind ≡ act_kind act };
+
+    fn from(act: Act) -> Kind {
+        match act {
             Act::Schedule => Kind::Schedule,
             Act::Begin => Kind::Begin,
             Act::Poll(_) => Kind::Poll,

@@ -1,25 +1,32 @@
 // A bay, and the task cell in it.
-ghost use Rattle.std.specs.Prelude.{◌≡◌, ◌+◌, ◌≤◌, true, ⊤};
-ghost use Rattle.word.specs.Words.{read};
-ghost use Rattle.cell.specs.Steps.{raw_of};
-ghost use Rattle.cell.specs.Keeps.{held, agrees};
+ghost use Rattle.std.specs.Prelude.{◌≡◌, ⊤};
 
 use super::raw::RawTask;
 use super::register::Register;
 use std::alloc::AllocError;
+use std::marker::Model;
 
 // A task and the register of its handles. What every cell keeps is in its type.
 #[derive(Drop)]
 pub struct Cell<F, O> {
     pub task: RawTask<F, O>,
     pub register: Register,
-    ghost few: { register.wakers ≤ 65535 },
-    // the count is the wakers and the Runnable
-    ghost counted: { (read task.header.state).count ≡ register.wakers + held register.stage },
-    // flags, waiter, content and register agree
-    ghost agreed: { agrees (raw_of task) register ≡ true },
 }
 
+impl<F, O> Model for Cell<F, O> {
+    ghost use Rattle.cell.specs.Keeps.{Cell as Seen, Keeps};
+
+    ghost Value = { Seen F O };
+
+    ghost view = { λ c. record { task = c.task; register = c.register } };
+
+    ghost inverse = { λ c. record { task = c.task; register = c.register } };
+
+    ghost invariant = { λ c. Keeps (record { task = c.task; register = c.register }) };
+}
+
+// By hand: a clone is the value and cannot fail. A derive clones part by part, which does not prove what every cell
+// keeps.
 impl<F: Copy, O: Copy> Clone for Cell<F, O> {
     ghost is_clone = { λ old new. new ≡ old };
 
@@ -32,20 +39,5 @@ impl<F: Copy, O: Copy> Clone for Cell<F, O> {
 
 impl<F: Copy, O: Copy> Copy for Cell<F, O> {}
 
-#[derive(Drop)]
-pub enum Bay<F, O> {
-    Vacant,
-    Occupied(Cell<F, O>),
-}
-
-impl<F: Copy, O: Copy> Clone for Bay<F, O> {
-    ghost is_clone = { λ old new. new ≡ old };
-
-    ghost is_infallible = { λ _. ⊤ };
-
-    fn clone(&self) -> Result<Bay<F, O>, AllocError> {
-        Ok(*self)
-    }
-}
-
-impl<F: Copy, O: Copy> Copy for Bay<F, O> {}
+// What is in a bay: nothing, or a cell.
+pub type Bay<F, O> = Option<Cell<F, O>>;

@@ -6,17 +6,17 @@ ghost use Rattle.cell.specs.Registers.{advanced};
 use super::call::Kind;
 
 // Where a cell's Runnable is.
-#[derive(Clone, Copy)]
+#[derive(Clone, Copy, PartialEq, Eq)]
 pub enum Stage {
     // there is none
-    Gone,
-    InHand,
+    Gone = 0,
+    InHand = 1,
     // an entry of the policy
-    Waiting,
+    Waiting = 2,
     // it has begun, and its future is to be polled
-    Begun,
+    Begun = 3,
     // its future has been polled
-    Polled,
+    Polled = 4,
 }
 
 // The stage of the Runnable, whether the Task is out, and how many wakers are.
@@ -28,16 +28,11 @@ pub struct Register {
 }
 
 impl Stage {
+    // Its number in the rules; the discriminants are these numbers.
     pub fn number(self) -> u8
         ensures { result ≡ stage_number self }
     {
-        match self {
-            Stage::Gone => 0,
-            Stage::InHand => 1,
-            Stage::Waiting => 2,
-            Stage::Begun => 3,
-            Stage::Polled => 4,
-        }
+        self as u8
     }
 }
 

@@ -1,7 +1,8 @@
 // No places, all places, one place too many, and layer over layer.
 use layers::Slot;
-use queues::{Queue, Stack};
+use queues::{Back, End, Front, Queue, Stack};
 use schedule::Schedule;
+use std::collections::VecDeque;
 use std::test::Fail;
 
 #[test]
@@ -55,5 +56,17 @@ fn slot_over_slot(rt: HostRuntime) -> Result<(), Fail> {
     assert_eq!(rt; policy.take(), Some(2));
     assert_eq!(rt; policy.take(), Some(3));
     assert_eq!(rt; policy.take(), Some(1));
+    Ok(())
+}
+
+#[test]
+fn a_bay_joins_at_either_end(rt: HostRuntime) -> Result<(), Fail> {
+    let mut bays = VecDeque::with_capacity(rt.alloc(), 3)?;
+    Back::join(&mut bays, 7)?;
+    Back::join(&mut bays, 8)?;
+    Front::join(&mut bays, 3)?;
+    assert_eq!(rt; bays.pop_front(), Some(3));
+    assert_eq!(rt; bays.pop_front(), Some(7));
+    assert_eq!(rt; bays.pop_front(), Some(8));
     Ok(())
 }

@@ -1,21 +1,22 @@
 // The handle: a bay number that has to be spent. Its kind says which calls it has.
 ghost use Rattle.std.specs.Prelude.{◌≡◌, true, MatchResult};
 ghost use Rattle.cell.specs.declared.call.Call.TheVariants.{At};
-ghost use Rattle.rack.specs.Racks.{views, Stepped};
+ghost use Rattle.rack.specs.Racks.{Stepped};
 ghost use Rattle.handles.specs.Handles.{unspent, Gives};
 
 use super::refused::Refused;
 use super::waker::Waker;
 use cell::call::Act;
 use cell::cell::Bay;
-use cell::report::{Fault, Report};
-use jobs::Future;
+use cell::report::{Fault, Said};
+use polls::Future;
 use rack::calls;
 use schedule::Schedule;
 use std::marker::PhantomData;
 
 // A handle of the kind K. A kind has no values: it is there to say which calls the handle has.
 // There is no Model: clauses read both the bay and whether it is spent, which a Model could only rename.
+// `spent` is a field, since a handle may be let go, though only when it is spent: a rule of the handles.
 pub struct Handle<K> {
     bay: u32,
     spent: bool,
@@ -65,7 +66,8 @@ impl<K> Handle<K> {
     }
 
     // Every call that spends a handle ends here: a report spends it, a fault gives it back as it is.
-    // The call stands in a line before, since self is moved before the arguments are read.
+    // The bay is read in a line before, since self is moved before the arguments are read. It is no `map_err`, which
+    // could not spend the handle of an Ok. The calls that end here differ in the call alone, each a method by its name.
     pub(crate) fn settle<T>(self, said: Result<T, Fault>) -> Result<T, Refused<Self>>
         ensures { MatchResult said (λ x. result ≡ Ok x) (λ e. result ≡ Err (record { fault = e; handle = self })) }
     {
@@ -89,7 +91,7 @@ impl<K: Clones> Handle<K> {
         bays: &mut [Bay<F, F::Output>],
         policy: &mut S,
     ) -> Result<Waker, Fault>
-        ensures { Gives (λ _. unspent self.now.bay) (λ o. Stepped F.Future.step S.Schedule (views bays.old) policy.old (At self.now.bay (Act.Clone)) o (views bays.new) policy.new) result }
+        ensures { Gives (λ _. unspent self.now.bay) (λ o. Stepped F.Future.step S.Schedule bays.old policy.old (At self.now.bay (Act.Clone)) o bays.new policy.new) result }
     {
         calls::clone(bays, policy, self.bay)?;
         Ok(Waker::new(self.bay))
@@ -102,8 +104,8 @@ impl<K: Wakes> Handle<K> {
         &self,
         bays: &mut [Bay<F, F::Output>],
         policy: &mut S,
-    ) -> Result<Report<F::Output>, Fault>
-        ensures { Stepped F.Future.step S.Schedule (views bays.old) policy.old (At self.now.bay (Act.WakeByRef)) result (views bays.new) policy.new }
+    ) -> Said<F::Output>
+        ensures { Stepped F.Future.step S.Schedule bays.old policy.old (At self.now.bay (Act.WakeByRef)) result bays.new policy.new }
     {
         calls::wake_by_ref(bays, policy, self.bay)
     }

@@ -1,6 +1,6 @@
 // The Polled: a Runnable whose future has been polled is spent by finish, which exists here alone.
 ghost use Rattle.cell.specs.declared.call.Call.TheVariants.{At};
-ghost use Rattle.rack.specs.Racks.{views, Stepped};
+ghost use Rattle.rack.specs.Racks.{Stepped};
 ghost use Rattle.handles.specs.Handles.{Spends};
 
 use super::handle::{Clones, Handle, Wakes};
@@ -8,7 +8,7 @@ use super::refused::Refused;
 use cell::call::Act;
 use cell::cell::Bay;
 use cell::report::Report;
-use jobs::Future;
+use polls::Future;
 use rack::calls;
 use schedule::Schedule;
 
@@ -29,9 +29,9 @@ impl Polled {
         bays: &mut [Bay<F, F::Output>],
         policy: &mut S,
     ) -> Result<Report<F::Output>, Refused<Polled>>
-        ensures { Spends self (λ r. r) (λ o. Stepped F.Future.step S.Schedule (views bays.old) policy.old (At self.bay (Act.Finish)) o (views bays.new) policy.new) result }
+        ensures { Spends self (λ r. r) (λ o. Stepped F.Future.step S.Schedule bays.old policy.old (At self.bay (Act.Finish)) o bays.new policy.new) result }
     {
-        let said = calls::finish(bays, policy, self.bay());
-        self.settle(said)
+        let bay = self.bay();
+        self.settle(calls::finish(bays, policy, bay))
     }
 }

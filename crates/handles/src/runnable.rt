@@ -2,7 +2,7 @@
 ghost use Rattle.std.specs.Prelude.{option_map, if◌then◌else◌};
 ghost use Rattle.cell.specs.declared.call.Call.TheVariants.{Spawn, Take, At};
 ghost use Rattle.cell.specs.Events.{finds, is_begun};
-ghost use Rattle.rack.specs.Racks.{views, Stepped};
+ghost use Rattle.rack.specs.Racks.{Stepped};
 ghost use Rattle.handles.specs.Handles.{unspent, Spends, Gives};
 
 use super::handle::{Clones, Handle};
@@ -12,7 +12,7 @@ use super::task::Task;
 use cell::call::Act;
 use cell::cell::Bay;
 use cell::report::{Answer, Fault, Report};
-use jobs::Future;
+use polls::Future;
 use rack::calls;
 use schedule::Schedule;
 
@@ -31,7 +31,7 @@ pub fn spawn<F: Future, S: Schedule>(
     bay: u32,
     future: F,
 ) -> Result<(Runnable, Task), Fault>
-    ensures { Gives (λ _. (unspent bay, unspent bay)) (λ o. Stepped F.Future.step S.Schedule (views bays.old) policy.old (Spawn bay future) o (views bays.new) policy.new) result }
+    ensures { Gives (λ _. (unspent bay, unspent bay)) (λ o. Stepped F.Future.step S.Schedule bays.old policy.old (Spawn bay future) o bays.new policy.new) result }
 {
     calls::spawn(bays, policy, bay, future)?;
     Ok((Runnable::new(bay), Task::new(bay)))
@@ -42,7 +42,7 @@ pub fn take<F: Future, S: Schedule>(
     bays: &mut [Bay<F, F::Output>],
     policy: &mut S,
 ) -> Result<(Option<Runnable>, Report<F::Output>), Fault>
-    ensures { Gives (λ r. (option_map unspent (finds r.answer), r)) (λ o. Stepped F.Future.step S.Schedule (views bays.old) policy.old Take o (views bays.new) policy.new) result }
+    ensures { Gives (λ r. (option_map unspent (finds r.answer), r)) (λ o. Stepped F.Future.step S.Schedule bays.old policy.old Take o bays.new policy.new) result }
 {
     let report = calls::take(bays, policy)?;
     let found = match report.answer {
@@ -59,10 +59,10 @@ impl Runnable {
         bays: &mut [Bay<F, F::Output>],
         policy: &mut S,
     ) -> Result<Report<F::Output>, Refused<Runnable>>
-        ensures { Spends self (λ r. r) (λ o. Stepped F.Future.step S.Schedule (views bays.old) policy.old (At self.bay (Act.Schedule)) o (views bays.new) policy.new) result }
+        ensures { Spends self (λ r. r) (λ o. Stepped F.Future.step S.Schedule bays.old policy.old (At self.bay (Act.Schedule)) o bays.new policy.new) result }
     {
-        let said = calls::schedule(bays, policy, self.bay());
-        self.settle(said)
+        let bay = self.bay();
+        self.settle(calls::schedule(bays, policy, bay))
     }
 
     // Begins to run; or ends if the task is closed, with its future dropped and no Running.
@@ -71,15 +71,14 @@ impl Runnable {
         bays: &mut [Bay<F, F::Output>],
         policy: &mut S,
     ) -> Result<(Option<Running>, Report<F::Output>), Refused<Runnable>>
-        ensures { Spends self (λ r. ((if is_begun r.answer then Some (unspent self.bay) else None), r)) (λ o. Stepped F.Future.step S.Schedule (views bays.old) policy.old (At self.bay (Act.Begin)) o (views bays.new) policy.new) result }
+        ensures { Spends self (λ r. ((if is_begun r.answer then Some (unspent self.bay) else None), r)) (λ o. Stepped F.Future.step S.Schedule bays.old policy.old (At self.bay (Act.Begin)) o bays.new policy.new) result }
     {
         let bay = self.bay();
         let report = self.settle(calls::begin(bays, policy, bay))?;
-        let running = match report.answer {
-            Answer::Begun => Some(Running::new(bay)),
-            _ => None,
-        };
-        Ok((running, report))
+        if let Answer::Begun = report.answer {
+            return Ok((Some(Running::new(bay)), report));
+        }
+        Ok((None, report))
     }
 
     // Closes the task and drops its future.
@@ -88,9 +87,9 @@ impl Runnable {
         bays: &mut [Bay<F, F::Output>],
         policy: &mut S,
     ) -> Result<Report<F::Output>, Refused<Runnable>>
-        ensures { Spends self (λ r. r) (λ o. Stepped F.Future.step S.Schedule (views bays.old) policy.old (At self.bay (Act.DropRunnable)) o (views bays.new) policy.new) result }
+        ensures { Spends self (λ r. r) (λ o. Stepped F.Future.step S.Schedule bays.old policy.old (At self.bay (Act.DropRunnable)) o bays.new policy.new) result }
     {
-        let said = calls::drop_runnable(bays, policy, self.bay());
-        self.settle(said)
+        let bay = self.bay();
+        self.settle(calls::drop_runnable(bays, policy, bay))
     }
 }

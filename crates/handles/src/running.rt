@@ -1,6 +1,6 @@
 // The Running: a Runnable that has begun becomes a Polled by poll.
 ghost use Rattle.cell.specs.declared.call.Call.TheVariants.{At};
-ghost use Rattle.rack.specs.Racks.{views, Stepped};
+ghost use Rattle.rack.specs.Racks.{Stepped};
 ghost use Rattle.handles.specs.Handles.{unspent, Spends};
 
 use super::handle::{Clones, Handle, Wakes};
@@ -9,7 +9,7 @@ use super::refused::Refused;
 use cell::call::Act;
 use cell::cell::Bay;
 use cell::report::Report;
-use jobs::Future;
+use polls::Future;
 use rack::calls;
 use schedule::Schedule;
 
@@ -31,7 +31,7 @@ impl Running {
         policy: &mut S,
         word: u32,
     ) -> Result<(Polled, Report<F::Output>), Refused<Running>>
-        ensures { Spends self (λ r. (unspent self.bay, r)) (λ o. Stepped F.Future.step S.Schedule (views bays.old) policy.old (At self.bay (Act.Poll word)) o (views bays.new) policy.new) result }
+        ensures { Spends self (λ r. (unspent self.bay, r)) (λ o. Stepped F.Future.step S.Schedule bays.old policy.old (At self.bay (Act.Poll word)) o bays.new policy.new) result }
     {
         let bay = self.bay();
         let report = self.settle(calls::poll(bays, policy, bay, word))?;

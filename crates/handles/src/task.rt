@@ -1,14 +1,14 @@
 // The Task: asks for the output, and cancels.
 ghost use Rattle.cell.specs.declared.call.Call.TheVariants.{At};
-ghost use Rattle.rack.specs.Racks.{views, Stepped};
+ghost use Rattle.rack.specs.Racks.{Stepped};
 ghost use Rattle.handles.specs.Handles.{Spends};
 
 use super::handle::Handle;
 use super::refused::Refused;
 use cell::call::Act;
 use cell::cell::Bay;
-use cell::report::{Fault, Report};
-use jobs::Future;
+use cell::report::{Report, Said};
+use polls::Future;
 use rack::calls;
 use schedule::Schedule;
 
@@ -25,8 +25,8 @@ impl Task {
         bays: &mut [Bay<F, F::Output>],
         policy: &mut S,
         waiter: u32,
-    ) -> Result<Report<F::Output>, Fault>
-        ensures { Stepped F.Future.step S.Schedule (views bays.old) policy.old (At self.now.bay (Act.PollTask waiter)) result (views bays.new) policy.new }
+    ) -> Said<F::Output>
+        ensures { Stepped F.Future.step S.Schedule bays.old policy.old (At self.now.bay (Act.PollTask waiter)) result bays.new policy.new }
     {
         calls::poll_task(bays, policy, self.bay(), waiter)
     }
@@ -36,8 +36,8 @@ impl Task {
         &self,
         bays: &mut [Bay<F, F::Output>],
         policy: &mut S,
-    ) -> Result<Report<F::Output>, Fault>
-        ensures { Stepped F.Future.step S.Schedule (views bays.old) policy.old (At self.now.bay (Act.Cancel)) result (views bays.new) policy.new }
+    ) -> Said<F::Output>
+        ensures { Stepped F.Future.step S.Schedule bays.old policy.old (At self.now.bay (Act.Cancel)) result bays.new policy.new }
     {
         calls::cancel(bays, policy, self.bay())
     }
@@ -48,10 +48,10 @@ impl Task {
         bays: &mut [Bay<F, F::Output>],
         policy: &mut S,
     ) -> Result<Report<F::Output>, Refused<Task>>
-        ensures { Spends self (λ r. r) (λ o. Stepped F.Future.step S.Schedule (views bays.old) policy.old (At self.bay (Act.Detach)) o (views bays.new) policy.new) result }
+        ensures { Spends self (λ r. r) (λ o. Stepped F.Future.step S.Schedule bays.old policy.old (At self.bay (Act.Detach)) o bays.new policy.new) result }
     {
-        let said = calls::detach(bays, policy, self.bay());
-        self.settle(said)
+        let bay = self.bay();
+        self.settle(calls::detach(bays, policy, bay))
     }
 
     // Closes the task and lets the Task go.
@@ -60,9 +60,9 @@ impl Task {
         bays: &mut [Bay<F, F::Output>],
         policy: &mut S,
     ) -> Result<Report<F::Output>, Refused<Task>>
-        ensures { Spends self (λ r. r) (λ o. Stepped F.Future.step S.Schedule (views bays.old) policy.old (At self.bay (Act.DropTask)) o (views bays.new) policy.new) result }
+        ensures { Spends self (λ r. r) (λ o. Stepped F.Future.step S.Schedule bays.old policy.old (At self.bay (Act.DropTask)) o bays.new policy.new) result }
     {
-        let said = calls::drop_task(bays, policy, self.bay());
-        self.settle(said)
+        let bay = self.bay();
+        self.settle(calls::drop_task(bays, policy, bay))
     }
 }

@@ -1,6 +1,6 @@
 // A waker: wakes the task of its bay.
 ghost use Rattle.cell.specs.declared.call.Call.TheVariants.{At};
-ghost use Rattle.rack.specs.Racks.{views, Stepped};
+ghost use Rattle.rack.specs.Racks.{Stepped};
 ghost use Rattle.handles.specs.Handles.{Spends};
 
 use super::handle::{Clones, Handle, Wakes};
@@ -8,7 +8,7 @@ use super::refused::Refused;
 use cell::call::Act;
 use cell::cell::Bay;
 use cell::report::Report;
-use jobs::Future;
+use polls::Future;
 use rack::calls;
 use schedule::Schedule;
 
@@ -29,10 +29,10 @@ impl Waker {
         bays: &mut [Bay<F, F::Output>],
         policy: &mut S,
     ) -> Result<Report<F::Output>, Refused<Waker>>
-        ensures { Spends self (λ r. r) (λ o. Stepped F.Future.step S.Schedule (views bays.old) policy.old (At self.bay (Act.Wake)) o (views bays.new) policy.new) result }
+        ensures { Spends self (λ r. r) (λ o. Stepped F.Future.step S.Schedule bays.old policy.old (At self.bay (Act.Wake)) o bays.new policy.new) result }
     {
-        let said = calls::wake(bays, policy, self.bay());
-        self.settle(said)
+        let bay = self.bay();
+        self.settle(calls::wake(bays, policy, bay))
     }
 
     // Drops the waker.
@@ -41,9 +41,9 @@ impl Waker {
         bays: &mut [Bay<F, F::Output>],
         policy: &mut S,
     ) -> Result<Report<F::Output>, Refused<Waker>>
-        ensures { Spends self (λ r. r) (λ o. Stepped F.Future.step S.Schedule (views bays.old) policy.old (At self.bay (Act.DropWaker)) o (views bays.new) policy.new) result }
+        ensures { Spends self (λ r. r) (λ o. Stepped F.Future.step S.Schedule bays.old policy.old (At self.bay (Act.DropWaker)) o bays.new policy.new) result }
     {
-        let said = calls::drop_waker(bays, policy, self.bay());
-        self.settle(said)
+        let bay = self.bay();
+        self.settle(calls::drop_waker(bays, policy, bay))
     }
 }

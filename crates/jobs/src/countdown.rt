@@ -1,30 +1,10 @@
-// A future that counts its polls down.
-ghost use Rattle.jobs.specs.Kinds.{countdown_step, countdown_start};
-ghost use Rattle.jobs.specs.Runs.{CountsDown};
-ghost use Rattle.jobs.specs.Laws.{counts_down};
+// A Countdown as a job: started from the number of its polls, which is its output too.
+ghost use Rattle.polls.specs.Kinds.{countdown_start};
+ghost use Rattle.polls.specs.Runs.{CountsDown};
+ghost use Rattle.polls.proofs.Laws.{counts_down};
 
-use super::future::{Future, Job, Poll};
-
-// Pending `left` times more, then Ready with `from`, whatever the words.
-#[derive(Clone, Copy)]
-pub struct Countdown {
-    pub from: u32,
-    pub left: u32,
-}
-
-impl Future for Countdown {
-    type Output = u32;
-
-    ghost step = { countdown_step };
-
-    fn poll(&mut self, _word: u32) -> Poll<u32> {
-        if self.left == 0 {
-            return Poll::Ready(self.from);
-        }
-        self.left -= 1;
-        Poll::Pending
-    }
-}
+use super::job::Job;
+pub use polls::Countdown;
 
 impl Job for Countdown {
     ghost started = { countdown_start };

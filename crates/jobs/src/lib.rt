@@ -1,12 +1,9 @@
-// Futures and jobs: what a tape's transfer is made of.
+// Jobs: futures that are started from a word, and shown by a number.
 #![tactic(auto)]
 
 pub mod countdown;
-pub mod future;
-pub mod runs;
+pub mod job;
 pub mod transfer;
 
-pub use countdown::Countdown;
-pub use future::{Future, Job, Poll};
-pub use runs::{Played, play};
-pub use transfer::{Recording, Transfer};
+pub use job::Job;
+pub use polls::{Countdown, Future, Played, Poll, Recording, Transfer, play};

@@ -55,6 +55,7 @@ impl<P: Schedule> Schedule for Slot<P> {
         } else {
             self.slot.replace(bay)
         };
+        // refused only where the slot and the policy below do not agree
         if let Some(lower) = lower {
             self.below.put(lower, woken_while_running);
         }

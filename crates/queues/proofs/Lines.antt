@@ -1,6 +1,6 @@
 -- What stays true of a line when a bay joins it, and in which order a line serves.
-use Rattle.std.proofs.Common.{◌≡◌, ℕ, Bool, true, false, List, arith}
-use Rattle.std.proofs.lemmas.Bool.{lt-ltb}
+use Rattle.std.proofs.Common.{◌≡◌, ℕ, Bool, true, false, List, Ok, Err, Result, IsOk, OnOk, arith}
+use Rattle.std.proofs.lemmas.Bool.{lt-ltb, false≢true}
 use Rattle.std.proofs.lemmas.Bool.Decides.{nat_tests}
 use Rattle.schedule.specs.declared.Schedule.{Ghosts}
 use Rattle.schedule.specs.declared.requests.Request.{Request}
@@ -11,6 +11,11 @@ use Rattle.schedule.specs.Requests.{Serves}
 use Rattle.schedule.proofs.Entries.{accepted, distinct_push, below_push}
 use Rattle.schedule.proofs.Turns.{fifo, lifo}
 use Rattle.queues.specs.Ends.{joined, Order}
+
+-- what holds of a value, where there is one
+pub had : {T E : Type 0} (r : Result T E) (P : Type 0) → IsOk r → OnOk r P → P
+had (Ok x) P k h = h
+had (Err e) P k h = absurd (false≢true k)
 
 pub joined_distinct : (back : Bool) (b : ℕ) (es : List ℕ) (n : ℕ) → accepts b es n ≡ true → distinct es ≡ true → distinct (joined back es b) ≡ true
 joined_distinct true b es n a d = distinct_push b es (accepted b es n a).1 d

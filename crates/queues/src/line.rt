@@ -1,40 +1,45 @@
 // A line of bays, and the end at which a new bay joins it.
-ghost use Rattle.std.specs.Prelude.{◌≡◌, ◌<◌, ◌≤◌, Bool, true, false, if◌then◌else◌};
+ghost use Rattle.std.specs.Prelude.{◌≡◌, ◌<◌, ◌≤◌, Bool, true, false, IsOk, OnOk, OnErr};
 ghost use Rattle.std.specs.VecDeque.{deque_len, deque_capacity};
 ghost use Rattle.schedule.specs.Entries.{distinct, below_64};
 ghost use Rattle.queues.specs.Ends.{joined};
 
+use std::alloc::AllocError;
 use std::collections::VecDeque;
 use std::marker::PhantomData;
 
+// An end of a line.
 pub trait End {
     // whether it is the back
     ghost back: { Bool };
 
-    // Puts a bay in at this end. Without memory for it, it answers false and changes nothing.
-    fn join(bays: &mut VecDeque<u32>, bay: u32) -> bool
-        ensures items { bays.new.items ≡ (if result then joined back bays.old.items bay else bays.old.items) }
-        ensures room { deque_len bays.old < deque_capacity bays.old → result ≡ true }
+    // Puts a bay in at this end; where it lacks memory for it, it changes nothing.
+    fn join(bays: &mut VecDeque<u32>, bay: u32) -> Result<(), AllocError>
+        ensures ok { OnOk result (bays.new.items ≡ joined back bays.old.items bay) }
+        ensures err { OnErr result (bays.new.items ≡ bays.old.items) }
+        ensures room { deque_len bays.old < deque_capacity bays.old → IsOk result }
         ensures capacity { deque_capacity bays.old ≤ deque_capacity bays.new };
 }
 
+// Behind the others.
 pub struct Back;
 
 impl End for Back {
     ghost back = { true };
 
-    fn join(bays: &mut VecDeque<u32>, bay: u32) -> bool {
-        bays.push_back(bay).is_ok()
+    fn join(bays: &mut VecDeque<u32>, bay: u32) -> Result<(), AllocError> {
+        Ok(bays.push_back(bay)?)
     }
 }
 
+// Before the others.
 pub struct Front;
 
 impl End for Front {
     ghost back = { false };
 
-    fn join(bays: &mut VecDeque<u32>, bay: u32) -> bool {
-        bays.push_front(bay).is_ok()
+    fn join(bays: &mut VecDeque<u32>, bay: u32) -> Result<(), AllocError> {
+        Ok(bays.push_front(bay)?)
     }
 }
 

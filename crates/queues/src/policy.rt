@@ -60,7 +60,7 @@ impl<E: End> Schedule for Line<E> {
     ghost most = { Prim.search rules };
 
     fn put(&mut self, bay: u32, _woken_while_running: bool) -> bool {
-        self.admits(bay) && E::join(&mut self.bays, bay)
+        self.admits(bay) && E::join(&mut self.bays, bay).is_ok()
     }
 
     fn peek(&self) -> Option<u32> {

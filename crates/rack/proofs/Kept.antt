@@ -1,14 +1,19 @@
 -- What every list of calls keeps: the bays in step with their lives, the policy with the bays that wait, and the price list.
-use Rattle.std.proofs.Common.{◌≡◌, ℕ, zero, suc, ◌+◌, ◌<◌, ◌≤◌, Bool, true, false, cond, not, ◌&&◌, ◌||◌, leb, ◌⊎◌, List, [], ◌∷◌, length, get_or, drop, set, is_some, Some, None, Ok, Err, Option, Result, sym, refl, ap, ◌∙◌, subst, inl, inr, arith}
+use Rattle.std.proofs.Common.{◌≡◌, ℕ, ◌+◌, ◌<◌, ◌≤◌, Bool, true, false, cond, not, ◌&&◌, ◌||◌, leb, ◌⊎◌, List, [], ◌∷◌, length, get_or, drop, set, is_some, Some, None, Ok, Err, Option, Result, sym, refl, ap, ◌∙◌, subst, inl, inr, arith}
 use Rattle.std.proofs.lemmas.List.{get_or-set_same, get_or-set_other, length-set, get_or_past}
-use Rattle.std.proofs.lemmas.Bool.{cases_eq, cases_lt, cond_both, cond-true, cond-false, eq-eqb, ne_eqb, lt-ltb, le-ltb, leb-false, lt-leb, and_from, and_left, and_right, not_from_true, not_from_false, or_from, false≢true, true≢false}
+use Rattle.std.proofs.lemmas.Bool.{cases_eq, cases_lt, cond_both, cond-true, cond-false, eq-eqb, ne_eqb, lt-ltb, le-ltb, leb-false, and_from, and_left, and_right, not_from_true, not_from_false, or_from, false≢true, true≢false}
+use Rattle.std.proofs.Math.Bool.{and-not_self}
+use Rattle.std.proofs.lemmas.List.Recursion.{is_sum_by}
+use Rattle.std.proofs.lemmas.List.Sums.{sum_by-set}
+use Rattle.std.proofs.lemmas.Option.{none-some}
+use Rattle.std.specs.List.{sum_by}
 use Rattle.std.specs.List.Sorted.{IsPermutation}
-use Rattle.jobs.specs.Step.{Step}
-use Rattle.jobs.specs.Through.{through, standing, finished}
+use Rattle.polls.specs.Step.{Step}
+use Rattle.polls.specs.Through.{through, standing, finished}
 use Rattle.schedule.specs.declared.Schedule.{Ghosts}
 use Rattle.schedule.specs.Entries.{first, accepts}
 use Rattle.schedule.specs.History.{times}
-use Rattle.schedule.proofs.Times.{times_cons, times_shuffled, is_in_times}
+use Rattle.schedule.proofs.Times.{times_own, times_other, times_shuffled, is_in_times}
 use Rattle.cell.specs.declared.call.Act.{Act}
 use Rattle.cell.specs.declared.call.Call.{Call}
 use Rattle.cell.specs.declared.call.Call.TheVariants.{Spawn, Take, At}
@@ -20,7 +25,9 @@ use Rattle.cell.specs.declared.report.Fault.TheVariants as fault
 use Rattle.cell.specs.declared.report.Report.{Report}
 use Rattle.cell.specs.declared.raw.Content.TheVariants.{Output}
 use Rattle.cell.specs.Steps.{says}
-use Rattle.cell.specs.Acts.{Cell, Move, spawned, is_waiting}
+use Rattle.cell.specs.Acts.{spawned, is_waiting}
+use Rattle.cell.specs.Keeps.{Cell}
+use Rattle.cell.specs.declared.act.Move.{Move}
 use Rattle.cell.specs.Events.{not_for_policy, waits, delivers, polled_with}
 use Rattle.cell.proofs.Rows.{Goes, Ends, Does, denied, goes, ends, Follows, HandsOver}
 use Rattle.cell.proofs.Doing.{does, in_hand}
@@ -28,7 +35,7 @@ use Rattle.rack.specs.Racks.{After, Shifted, Stepped, shifted, crowded, located,
 use Rattle.rack.specs.History.{Event, event, acted_on, names, concerns, is_spawn, life, runnable, alive, future_of, poll_word, words, asked, total}
 use Rattle.rack.specs.Law.{TrueEvent, Each, taken_in, deliveries, discards, drops, losses, in_bay, standing_in, CameOf}
 use Rattle.rack.proofs.Lives.{Fits, Empties, Meets, fits_on, empties_on, fits_spawn, fits_take, alive_is}
-use Rattle.rack.proofs.Pigeon.{one_same, one_other, pigeon}
+use Rattle.rack.proofs.Pigeon.{pigeon}
 
 abbrev one : Bool → ℕ
 one t = cond t 1 0
@@ -36,10 +43,6 @@ one t = cond t 1 0
 one_le : (t : Bool) → one t ≤ 1
 one_le true = omega arith
 one_le false = omega arith
-
-and_not : (t : Bool) → (t && not t) ≡ false
-and_not true = refl
-and_not false = refl
 
 module _ {F O : Type 0} where
   -- the life of a bay, one event later
@@ -49,10 +52,12 @@ module _ {F O : Type 0} where
   life_own : (k : ℕ) (e : Event F O) (h : List (Event F O)) → concerns k e ≡ true → life k (e ∷ h) ≡ e ∷ cond (is_spawn e) [] (life k h)
   life_own k e h q = cond-true _ _ _ q
 
+  -- what stands in the bays is a sum over them
+  pub standing_is : (bays : List (Option (Cell F O))) → standing_in bays ≡ sum_by in_bay bays
+  standing_is bays = is_sum_by standing_in in_bay refl (λ _ _. refl) bays
+
   standing_set : (bays : List (Option (Cell F O))) (b : ℕ) (x : Option (Cell F O)) → b < length bays → standing_in (set bays b x) + in_bay (get_or bays b None) ≡ standing_in bays + in_bay x
-  standing_set [] b x l = absurd (omega arith)
-  standing_set (y ∷ bays) zero x l = omega arith
-  standing_set (y ∷ bays) (suc b) x l = let p = standing_set bays b x (omega arith) in omega arith
+  standing_set bays b x l = let was = standing_is bays in let now = standing_is (set bays b x) in let p = sum_by-set in_bay bays b x None l in omega arith
 
 module _ {F O S : Type 0} (step : F → ℕ → Step F O) (P : Ghosts S) where
   -- the price list after a history and with these bays
@@ -107,7 +112,7 @@ module _ {F O S : Type 0} (step : F → ℕ → Step F O) (P : Ghosts S) where
     some = subst (λ m. 1 ≤ m) (sym (length-set bays b x)) k.some;
     few = subst (λ m. m ≤ 64) (sym (length-set bays b x)) k.few;
     room = subst (λ m. m ≤ P.places s') (sym (length-set bays b x)) (subst (λ n. length bays ≤ n) (sym places) k.room);
-    price = (let p = k.price in let q = standing_set bays b x l in omega arith);
+    price = (let q = standing_set bays b x l in omega arith);
     reports = (
       record {
         told = λ j w q. subst (λ i. r.woken ≡ Some w → asked (life i h) ≡ Some w) (same j q) (tells.told w);
@@ -143,7 +148,7 @@ module _ {F O S : Type 0} (step : F → ℕ → Step F O) (P : Ghosts S) where
           subst (λ i. (names i (acted_on c r) && r.cleared) ≡ (alive (life i h) && not (alive (life i (event c (Ok r) ∷ h))))) (sym e)
           (ap (λ t. t && r.cleared) mine ∙ clear ∙ ap (λ t. t && not (is_some x)) y ∙ ap (λ t. alive (life b h) && not t) z)
       cleared j (inr d) =
-          ap (λ t. t && r.cleared) (aside j d) ∙ sym (and_not (alive (life j h)))
+          ap (λ t. t && r.cleared) (aside j d) ∙ sym (and-not_self (alive (life j h)))
           ∙ ap (λ m. alive (life j h) && not (alive m)) (sym (life_other j (event c (Ok r)) h (aside j d)))
 
   -- What the report of a call on a cell tells, by the life of its bay.
@@ -151,14 +156,8 @@ module _ {F O S : Type 0} (step : F → ℕ → Step F O) (P : Ghosts S) where
   Told l v = (w : ℕ) → v ≡ Some w → asked l ≡ Some w
 
   told_by : (l : List (Event F O)) (v w : Option ℕ) → (v ≡ None) ⊎ (v ≡ w) → (w ≡ None) ⊎ (w ≡ asked l) → Told l v
-  told_by l v w (inl e) q x z = absurd (no_some x (sym e ∙ z))
-    where
-      no_some : (x : ℕ) → None ≡ Some x → ⊥
-      no_some x p = let o : ◌≡◌ {A = ℕ} 0 1 = cc in omega arith
-  told_by l v w (inr e) (inl q) x z = absurd (no_some x (sym q ∙ sym e ∙ z))
-    where
-      no_some : (x : ℕ) → None ≡ Some x → ⊥
-      no_some x p = let o : ◌≡◌ {A = ℕ} 0 1 = cc in omega arith
+  told_by l v w (inl e) q x z = absurd (none-some x (sym e ∙ z))
+  told_by l v w (inr e) (inl q) x z = absurd (none-some x (sym q ∙ sym e ∙ z))
   told_by l v w (inr e) (inr q) x z = sym q ∙ sym e ∙ z
 
   abbrev Handed : List (Event F O) → Option O → Type 0
@@ -186,11 +185,8 @@ module _ {F O S : Type 0} (step : F → ℕ → Step F O) (P : Ghosts S) where
   ends_tells b a l c r f g = record {
     told = told_by l r.woken c.task.header.awaiter g.told f.waiter;
     delivered = handed_by l c (delivers r.answer) f g.hands;
-    polled = λ w q. absurd (none_polled w (sym g.unpolled ∙ q));
+    polled = λ w q. absurd (none-some w (sym g.unpolled ∙ q));
   }
-    where
-      none_polled : (w : ℕ) → None ≡ Some w → ⊥
-      none_polled w p = let o : ◌≡◌ {A = ℕ} 0 1 = cc in omega arith
 
   -- the policy, where nothing is put or taken, where the bay is put, and where it is taken
   module _ (h : List (Event F O)) (bays : List (Option (Cell F O))) (s : S) (c : Call F) (r : Report O) (b : ℕ) (kept : Kept h bays s) (on : acted_on c r ≡ Some b) where
@@ -211,11 +207,10 @@ module _ {F O S : Type 0} (step : F → ℕ → Step F O) (P : Ghosts S) where
         go : (k ≡ b) ⊎ (k ≡ b → ⊥) → times k (b ∷ P.entries s) ≡ one (waits (runnable (life k (event c (Ok r) ∷ h))))
         go (inl e) =
             let here : times b (b ∷ P.entries s) ≡ one (waits (runnable (life b (event c (Ok r) ∷ h)))) =
-            (let x = times_cons b b (P.entries s) in let y = one_same b in let z = kept.policy b ∙ ap one was in let t = ap one now in omega arith) in
+            (let x = times_own b (P.entries s) in let z = kept.policy b ∙ ap one was in let t = ap one now in omega arith) in
             subst (λ i. times i (b ∷ P.entries s) ≡ one (waits (runnable (life i (event c (Ok r) ∷ h))))) (sym e) here
         go (inr d) =
-            let x = times_cons k b (P.entries s) in
-            let y = one_other b k d in
+            let x = times_other k b (P.entries s) d in
             let z = kept.policy k in
             let t = ap (λ u. one (waits u)) (elsewhere k d) in
             omega arith
@@ -226,12 +221,11 @@ module _ {F O S : Type 0} (step : F → ℕ → Step F O) (P : Ghosts S) where
         go : (k ≡ b) ⊎ (k ≡ b → ⊥) → times k es' ≡ one (waits (runnable (life k (event c (Ok r) ∷ h))))
         go (inl e) =
             let here : times b es' ≡ one (waits (runnable (life b (event c (Ok r) ∷ h)))) =
-            (let w = ap (times b) p in let x = times_cons b b es' in let y = one_same b in let z = kept.policy b in let u = one_le (waits (runnable (life b h))) in let t = ap one now in omega arith) in
+            (let w = ap (times b) p in let x = times_own b es' in let z = kept.policy b in let u = one_le (waits (runnable (life b h))) in let t = ap one now in omega arith) in
             subst (λ i. times i es' ≡ one (waits (runnable (life i (event c (Ok r) ∷ h))))) (sym e) here
         go (inr d) =
             let w = ap (times k) p in
-            let x = times_cons k b es' in
-            let y = one_other b k d in
+            let x = times_other k b es' d in
             let z = kept.policy k in
             let t = ap (λ u. one (waits u)) (elsewhere k d) in
             omega arith
@@ -243,8 +237,6 @@ module _ {F O S : Type 0} (step : F → ℕ → Step F O) (P : Ghosts S) where
   -- a bay that does not wait can be put
   free : (h : List (Event F O)) (bays : List (Option (Cell F O))) (s : S) (b : ℕ) → Kept h bays s → b < length bays → waits (runnable (life b h)) ≡ false → accepts b (P.entries s) (P.places s) ≡ true
   free h bays s b kept l w =
-      let f = kept.few in
-      let m = kept.room in
       let z : times b (P.entries s) ≡ 0 = kept.policy b ∙ ap one w in
       let p = pigeon (P.entries s) (length bays) b (λ k. let x = kept.policy k in let y = one_le (waits (runnable (life k h))) in omega arith)
       (λ k g. kept.policy k ∙ ap (λ u. one (waits u)) (past_gone h bays s k kept g)) z l in
@@ -277,7 +269,7 @@ module _ {F O S : Type 0} (step : F → ℕ → Step F O) (P : Ghosts S) where
             → Kept (event (At b a) (Ok r) ∷ h) (set bays b (Some c')) s'
         stays_kept s' policy agree places =
             kept_changed h bays s s' (At b a) r b (Some c') kept l refl (subst (λ m. Meets step m (Some c')) (sym (own r)) fits_now) policy agree places
-            (let x = ap in_bay there in let y = g.balance in omega arith) (goes_tells b a (life b h) c c' r fits g)
+            (let x = ap in_bay there in omega arith) (goes_tells b a (life b h) c c' r fits g)
             (g.stays ∙ sym (ap (λ o. is_some o && false) there))
 
         by_put : (p : Option Bool) → r.put ≡ p → (s' : S) → Shifted P (shifted b p) s s' → Kept (event (At b a) (Ok r) ∷ h) (set bays b (Some c')) s'
@@ -314,7 +306,7 @@ module _ {F O S : Type 0} (step : F → ℕ → Step F O) (P : Ghosts S) where
           vacated =
               kept_changed h bays s s (At b a) r b None kept l refl (subst (λ m. Meets step m None) (sym (own r)) empties)
               (policy_same h bays s (At b a) r b kept refl (ap (λ m. waits (runnable m)) (own r) ∙ ap waits empties.gone ∙ sym (ap waits (sym fits.stage) ∙ g.waited))) kept.agree refl
-              (let x = ap in_bay there in let y = g.balance in omega arith) (ends_tells b a (life b h) c r fits g)
+              (let x = ap in_bay there in omega arith) (ends_tells b a (life b h) c r fits g)
               (g.clears ∙ sym (ap (λ o. is_some o && true) there))
 
     on_bay : (b : ℕ) (a : Act) → b < length bays → (x : Option (Cell F O)) → get_or bays b None ≡ x → Keeps h bays s (At b a) (act_on step (P.entries s) (P.places s) bays b a (Ok x))
@@ -333,17 +325,14 @@ module _ {F O S : Type 0} (step : F → ℕ → Step F O) (P : Ghosts S) where
         (kept_changed h bays s s (Spawn b f) (says answer.Done) b (Some (spawned f)) kept l refl (subst (λ m. Meets step m (Some (spawned f))) (sym new) (fits_spawn step b f r))
         (policy_same h bays s (Spawn b f) r b kept refl (ap (λ m. waits (runnable m)) new ∙ sym (ap waits empty.gone))) kept.agree refl
         (let x = ap in_bay e in omega arith)
-        (record { told = λ w q. absurd (no_some q); delivered = λ o q. absurd (no_some q); polled = λ w q. absurd (no_some q) })
+        (record { told = λ w q. absurd (none-some w q); delivered = λ o q. absurd (none-some o q); polled = λ w q. absurd (none-some w q) })
         (sym (ap (λ o. is_some o && false) e)))
-      where
-        no_some : {A : Type 0} {x : A} → None ≡ Some x → ⊥
-        no_some p = let o : ◌≡◌ {A = ℕ} 0 1 = cc in omega arith
 
     -- the bay of a number is there, or the call is refused
     finds_bay : (b : ℕ) (c : Call F) (go : Result (Option (Cell F O)) Fault → After F O) → ((e : Fault) → go (Err e) ≡ refusal bays e)
         → (b < length bays → Keeps h bays s c (go (Ok (get_or bays b None)))) → Keeps h bays s c (go (located bays b))
     finds_bay b c go refuses there =
-        cond_both (crowded bays) _ _ (λ y. Keeps h bays s c (go y)) (λ _. no fault.BayCount refl)
+        cond_both (crowded (length bays)) _ _ (λ y. Keeps h bays s c (go y)) (λ _. no fault.BayCount refl)
         (λ _. cond_both (leb (length bays) b) _ _ (λ y. Keeps h bays s c (go y)) (λ _. no fault.NoSuchBay refl) (λ q. there (leb-false (length bays) b q)))
       where
         no : (e : Fault) → not_for_policy e ≡ true → Keeps h bays s c (go (Err e))
@@ -355,11 +344,9 @@ module _ {F O S : Type 0} (step : F → ℕ → Step F O) (P : Ghosts S) where
     keeps_spawn : (b : ℕ) (f : F) → Keeps h bays s (Spawn b f) (decided step (P.entries s) (P.places s) bays (Spawn b f))
     keeps_spawn b f = finds_bay b (Spawn b f) (spawn_into bays b f) (λ e. refl) (λ l. into_bay b f l (get_or bays b None) refl)
 
-    uncrowded : crowded bays ≡ false
+    uncrowded : crowded (length bays) ≡ false
     uncrowded =
-        let some = kept.some in
-        let few = kept.few in
-        or_from _ _ (ne_eqb (length bays) 0 (omega arith)) (le-ltb 64 (length bays) few)
+        or_from _ _ (ne_eqb (length bays) 0 (omega arith)) (le-ltb 64 (length bays) kept.few)
 
     -- a take that finds nobody waiting
     keeps_nobody : Keeps h bays s Take (take_first bays None)
@@ -370,29 +357,26 @@ module _ {F O S : Type 0} (step : F → ℕ → Step F O) (P : Ghosts S) where
       some = kept.some;
       few = kept.few;
       room = kept.room;
-      price = (let p = kept.price in omega arith);
+      price = omega arith;
       reports = (
         record {
-          told = λ k w q. absurd (no_some q);
-          delivered = λ k o q. absurd (no_some q);
-          polled = λ k w q. absurd (no_some q);
-          cleared = λ k. sym (and_not (alive (life k h)));
+          told = λ k w q. absurd (none-some k q);
+          delivered = λ k o q. absurd (none-some k q);
+          polled = λ k w q. absurd (none-some k q);
+          cleared = λ k. sym (and-not_self (alive (life k h)));
         },
         kept.reports,
       );
     })
-      where
-        no_some : {A : Type 0} {x : A} → None ≡ Some x → ⊥
-        no_some p = let o : ◌≡◌ {A = ℕ} 0 1 = cc in omega arith
 
     -- the first entry is a bay whose Runnable waits
     keeps_found : (b : ℕ) (es : List ℕ) → P.entries s ≡ b ∷ es → Keeps h bays s Take (take_first bays (Some b))
     keeps_found b es first_is =
         let here : 1 ≤ one (waits (runnable (life b h))) =
-        (let x = kept.policy b in let y = one_same b in let z = times_cons b b es in let u = ap (times b) first_is in omega arith) in
+        (let x = kept.policy b in let z = times_own b es in let u = ap (times b) first_is in omega arith) in
         let w : waits (runnable (life b h)) ≡ true = one_true _ here in
         let l : b < length bays = within w (cases_lt b (length bays)) in
-        subst (Keeps h bays s Take) (sym (cond-false _ _ _ (lt-leb (length bays) b l))) (at (get_or bays b None) refl w l)
+        at (get_or bays b None) refl w l
       where
         one_true : (t : Bool) → 1 ≤ one t → t ≡ true
         one_true true l = refl
@@ -409,9 +393,6 @@ module _ {F O S : Type 0} (step : F → ℕ → Step F O) (P : Ghosts S) where
         waiting_is Begun e = absurd (false≢true e)
         waiting_is Polled e = absurd (false≢true e)
 
-        no_some : {A : Type 0} {x : A} → None ≡ Some x → ⊥
-        no_some p = let o : ◌≡◌ {A = ℕ} 0 1 = cc in omega arith
-
         at : (x : Option (Cell F O)) → get_or bays b None ≡ x → waits (runnable (life b h)) ≡ true → b < length bays → Keeps h bays s Take (hand_over bays b (waiting_in x))
         at None e w l =
             let empty : Empties step (life b h) = subst (Meets step (life b h)) e (kept.slots b) in
@@ -427,7 +408,7 @@ module _ {F O S : Type 0} (step : F → ℕ → Step F O) (P : Ghosts S) where
             (policy_take h bays s Take r b kept refl (P.entries s') (first_is ∙ ap (λ y. b ∷ y) (sym (z.0 ∙ ap (drop 1) first_is))) (ap (λ m. waits (runnable m)) own_life))
             (z.2 kept.agree) z.1
             (let x = ap in_bay e in omega arith)
-            (record { told = λ v q. absurd (no_some q); delivered = λ o q. absurd (no_some q); polled = λ v q. absurd (no_some q) })
+            (record { told = λ v q. absurd (none-some v q); delivered = λ o q. absurd (none-some o q); polled = λ v q. absurd (none-some v q) })
             (sym (ap (λ o. is_some o && false) e)))
 
     keeps_first : (es : List ℕ) → P.entries s ≡ es → Keeps h bays s Take (take_first bays (first es))

@@ -1,28 +1,31 @@
 -- The law, from what every list of calls keeps.
-use Rattle.std.proofs.Common.{◌≡◌, ℕ, zero, suc, ◌+◌, ◌<◌, ◌≤◌, Bool, true, false, cond, not, ◌&&◌, ◌||◌, eqb, ltb, ◌⊎◌, List, [], ◌∷◌, length, get_or, set, replicate, Some, None, Ok, Err, Option, Result, sym, refl, ap, ◌∙◌, subst, inl, inr, arith}
+use Rattle.std.proofs.Common.{◌≡◌, ℕ, ◌+◌, ◌<◌, ◌≤◌, Bool, true, false, cond, not, ◌&&◌, ◌||◌, eqb, ltb, ◌⊎◌, List, [], ◌∷◌, length, get_or, set, replicate, Some, None, Ok, Err, Option, Result, sym, refl, ap, ◌∙◌, subst, inl, inr, arith}
+use Rattle.std.proofs.lemmas.Bool.Decides.{nat_tests}
 use Rattle.std.proofs.lemmas.List.{get_or-set_other, length-replicate, get_or-replicate, get_or_past}
-use Rattle.std.proofs.lemmas.Bool.{cases_lt, cond_both, eqb-false, false≢true}
+use Rattle.std.proofs.lemmas.Bool.{cases_lt, cond_both, eqb-false}
+use Rattle.std.proofs.lemmas.List.Folds.{sum_by-replicate}
 use Rattle.std.specs.List.Sorted.{IsPermutation}
-use Rattle.jobs.specs.Step.{Step}
+use Rattle.polls.specs.Step.{Step}
 use Rattle.schedule.specs.declared.Schedule.{Ghosts}
 use Rattle.schedule.specs.Entries.{distinct, first}
 use Rattle.schedule.specs.History.{times}
 use Rattle.schedule.proofs.Times.{is_in_times}
-use Rattle.word.specs.Words.{still_open}
+use Rattle.bits.specs.Words.{still_open}
 use Rattle.cell.specs.declared.call.Act.{Act}
 use Rattle.cell.specs.declared.call.Call.{Call}
 use Rattle.cell.specs.declared.call.Call.TheVariants.{Spawn, Take, At}
 use Rattle.cell.specs.declared.report.Fault.{Fault}
 use Rattle.cell.specs.declared.report.Report.{Report}
-use Rattle.cell.specs.Keeps.{exists, held}
-use Rattle.cell.specs.Acts.{Cell, word, Move, acted}
+use Rattle.cell.specs.Keeps.{exists, held, Cell, word}
+use Rattle.cell.specs.Acts.{acted}
+use Rattle.cell.specs.declared.act.Move.{Move}
 use Rattle.cell.specs.Events.{waits, to_run}
 use Rattle.cell.proofs.Phases.{is_kept}
 use Rattle.rack.specs.Racks.{After, Stepped, located, settled, spawn_into, act_on, hand_over, waiting_in, take_first, decided}
 use Rattle.rack.specs.History.{Event, event, concerns, life, runnable, awake}
-use Rattle.rack.specs.Law.{Ran, none, more, Alone, standing_in, Law}
+use Rattle.rack.specs.Law.{Ran, none, more, Alone, in_bay, standing_in, Law}
 use Rattle.rack.proofs.Lives.{Fits, Meets, alive_is, runs_is}
-use Rattle.rack.proofs.Kept.{Kept, kept_more}
+use Rattle.rack.proofs.Kept.{standing_is, Kept, kept_more}
 
 one_some : (t : Bool) → ltb 0 (cond t 1 0) ≡ t
 one_some true = refl
@@ -30,10 +33,7 @@ one_some false = refl
 
 -- an open bay that was woken is to run
 woken_runs : (run opened woke : Bool) → (run || not (opened && woke)) ≡ true → opened ≡ true → woke ≡ true → run ≡ true
-woken_runs true o w h p q = refl
-woken_runs false true true h p q = h
-woken_runs false true false h p q = absurd (false≢true q)
-woken_runs false false w h p q = absurd (false≢true p)
+woken_runs run opened woke h p q = grind (arith, nat_tests)
 
 module _ {F O S : Type 0} (step : F → ℕ → Step F O) (P : Ghosts S) where
   module _ (adds : (s : S) (b : ℕ) (m : Bool) → P.agrees s → IsPermutation (b ∷ P.entries s) (P.after s b m)) where
@@ -50,7 +50,7 @@ module _ {F O S : Type 0} (step : F → ℕ → Step F O) (P : Ghosts S) where
       some = rw long some;
       few = rw long few;
       room = rw long room;
-      price = sym (ap (λ x. 0 + 0 + 0 + 0 + x) (none_standing n));
+      price = sym (ap (λ x. 0 + 0 + 0 + 0 + x) none_standing);
       reports = tt;
     }
       where
@@ -61,9 +61,8 @@ module _ {F O S : Type 0} (step : F → ℕ → Step F O) (P : Ghosts S) where
         vacant k (inl l) = get_or-replicate n k None None l
         vacant k (inr g) = get_or_past (replicate {A = Option (Cell F O)} n None) k None (rw long g)
 
-        none_standing : (n : ℕ) → standing_in (replicate {A = Option (Cell F O)} n None) ≡ 0
-        none_standing zero = refl
-        none_standing (suc n) = let p = none_standing n in omega arith
+        none_standing : standing_in (replicate {A = Option (Cell F O)} n None) ≡ 0
+        none_standing = standing_is (replicate n None) ∙ sum_by-replicate in_bay n None ∙ omega arith
 
   -- what is kept is the law
   law_of : ((s : S) → P.agrees s → distinct (P.entries s) ≡ true) → (h : List (Event F O)) (bays : List (Option (Cell F O))) (s : S) → Kept step P h bays s → Law step P h bays s
@@ -71,7 +70,6 @@ module _ {F O S : Type 0} (step : F → ℕ → Step F O) (P : Ghosts S) where
     counts = λ k c e.
         (let f = fits k c e in
         let n = (is_kept c f.is).1 in
-        let w = f.wakers in
         let r : ◌≡◌ {A = ℕ} (cond ((word c).scheduled || (word c).running) 1 0) (held c.register.stage) = ap (λ t. cond t 1 0) (runs_is c f.is) in
         omega arith);
     runs = λ k c e. (let f = fits k c e in runs_is c f.is ∙ ap exists f.stage);
@@ -116,8 +114,7 @@ module _ {F O S : Type 0} (step : F → ℕ → Step F O) (P : Ghosts S) where
 
     apart_first : (x : Option ℕ) → Apart Take (take_first bays x)
     apart_first None k q = refl
-    apart_first (Some b) k q =
-        cond_both _ _ _ (Apart Take) (λ _ _ _. refl) (λ _. apart_over b (waiting_in (get_or bays b None))) k q
+    apart_first (Some b) k q = apart_over b (waiting_in (get_or bays b None)) k q
 
     apart : (es : List ℕ) (n : ℕ) (c : Call F) → Apart c (decided step es n bays c)
     apart es n (Spawn b f) k q = apart_spawn b f (located bays b) k q

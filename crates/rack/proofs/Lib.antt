@@ -1,4 +1,4 @@
-pub mod Steps
+pub mod Takes
 pub mod Lives
 pub mod Pigeon
 pub mod Kept

@@ -1,10 +1,10 @@
 -- A cell and the life of its bay go together.
 use Rattle.std.proofs.Common.{◌≡◌, ℕ, ◌+◌, Bool, true, false, cond, not, ◌&&◌, ◌||◌, eqb, ltb, ◌⊎◌, List, [], ◌∷◌, ◌++◌, is_some, Some, None, Ok, Option, sym, refl, ap, ◌∙◌, subst, inl, inr, arith}
 use Rattle.std.proofs.lemmas.Bool.{lt-ltb, le-ltb, cond-true, and_cases, not-false, eqb-false, or_left, or_right, or_from}
-use Rattle.jobs.specs.Step.{Step, pends, gives}
-use Rattle.jobs.specs.Through.{Through, through, standing, finished, poll_on}
-use Rattle.jobs.specs.Through as run
-use Rattle.jobs.specs.Stands.{polls_push}
+use Rattle.polls.specs.Step.{Step, pends, gives}
+use Rattle.polls.specs.Through.{Through, through, standing, finished, poll_on}
+use Rattle.polls.specs.Through as run
+use Rattle.polls.proofs.Through.{polls_push}
 use Rattle.cell.specs.declared.call.Kind.TheVariants as kind
 use Rattle.cell.specs.declared.call.Act.{Act}
 use Rattle.cell.specs.declared.call.Call.TheVariants.{Spawn, Take, At}
@@ -13,8 +13,8 @@ use Rattle.cell.specs.declared.register.Stage.TheVariants.{Gone, InHand, Waiting
 use Rattle.cell.specs.declared.report.Report.{Report}
 use Rattle.cell.specs.declared.raw.Content.{Content}
 use Rattle.cell.specs.Cells.{unheld}
-use Rattle.cell.specs.Keeps.{exists, held, runs}
-use Rattle.cell.specs.Acts.{Cell, word, spawned, is_waiting}
+use Rattle.cell.specs.Keeps.{exists, held, runs, Cell, word}
+use Rattle.cell.specs.Acts.{spawned, is_waiting}
 use Rattle.cell.specs.Events.{is, is_pending, word_of, polled_with, asked_after, whereabouts, task_after, to_run}
 use Rattle.cell.proofs.Phases.{Phase, idle, hand, wait, begun, pending, ready, done, over, stage_of, scheduled_in, Is, is_kept}
 use Rattle.cell.proofs.Rows.{Follows, after_step, alert, Goes, Ends}
@@ -78,8 +78,6 @@ module _ {F O : Type 0} (step : F → ℕ → Step F O) where
   -- a call that leaves the bay occupied
   pub fits_on : (b : ℕ) (a : Act) (l : List (Event F O)) (c c' : Cell F O) (r : Report O) → Fits l c → Goes step a c c' r → Fits (event (At b a) (Ok r) ∷ l) c'
   fits_on b a l c c' r f g =
-      let w = g.wakers in
-      let v = f.wakers in
       record {
         is = g.is;
         stage = g.stage ∙ ap (whereabouts a r) f.stage;
@@ -104,8 +102,6 @@ module _ {F O : Type 0} (step : F → ℕ → Step F O) where
   -- a call that clears the bay
   pub empties_on : (b : ℕ) (a : Act) (l : List (Event F O)) (c : Cell F O) (r : Report O) → Fits l c → Ends a c r → Empties (event (At b a) (Ok r) ∷ l)
   empties_on b a l c r f g =
-      let w = g.wakers in
-      let v = f.wakers in
       record { gone = ap (whereabouts a r) (sym f.stage) ∙ g.stage; spent = ap (task_after a) (sym f.task) ∙ g.task; repaid = omega arith }
 
   -- a spawn
@@ -129,7 +125,7 @@ module _ {F O : Type 0} (step : F → ℕ → Step F O) where
         is = take_is c f.is h;
         stage = e;
         task = f.task;
-        wakers = (let w = f.wakers in omega arith);
+        wakers = omega arith;
         live = f.live;
         holds = f.holds;
         waiter = f.waiter;
@@ -148,7 +144,7 @@ module _ {F O : Type 0} (step : F → ℕ → Step F O) where
       counted e z = eqb-false (word c).count 0 e ((is_kept c m.is).1 ∙ z)
 
       some_out : (s : Stage) → s ≡ runnable l → (c.register.wakers + held s ≡ 0 → ⊥) → (exists (runnable l) || ltb (taken_back l) (handed_out l)) ≡ true
-      some_out Gone e z = or_right (exists (runnable l)) _ (lt-ltb (taken_back l) (handed_out l) (let w = m.wakers in omega arith))
+      some_out Gone e z = or_right (exists (runnable l)) _ (lt-ltb (taken_back l) (handed_out l) (omega arith))
       some_out InHand e z = or_left _ _ (ap exists (sym e))
       some_out Waiting e z = or_left _ _ (ap exists (sym e))
       some_out Begun e z = or_left _ _ (ap exists (sym e))

@@ -1,18 +1,17 @@
 -- The law: what holds of a rack after any list of calls, whatever the policy and the future.
 use Rattle.std.specs.Prelude.{◌≡◌, ℕ, ◌+◌, true, false, cond, not, ◌&&◌, ◌||◌, List, [], ◌∷◌, is_some, Some, None, Ok, Err, Option, Result, slice_index_or}
-use Rattle.jobs.specs.Step.{Step}
-use Rattle.jobs.specs.Through.{through, standing, finished}
+use Rattle.polls.specs.Step.{Step}
+use Rattle.polls.specs.Through.{through, standing, finished}
 use Rattle.schedule.specs.declared.Schedule.{Ghosts}
 use Rattle.schedule.specs.Entries.{is_in, distinct}
-use Rattle.word.specs.Words.{still_open}
+use Rattle.bits.specs.Words.{still_open}
 use Rattle.cell.specs.declared.call.Call.{Call}
 use Rattle.cell.specs.declared.call.Call.TheVariants.{Spawn, Take, At}
 use Rattle.cell.specs.declared.raw.Content.{Content}
 use Rattle.cell.specs.declared.raw.Content.TheVariants.{Future, Output, Empty}
 use Rattle.cell.specs.declared.report.Fault.{Fault}
 use Rattle.cell.specs.declared.report.Report.{Report}
-use Rattle.cell.specs.Keeps.{exists}
-use Rattle.cell.specs.Acts.{Cell, word}
+use Rattle.cell.specs.Keeps.{exists, Cell, word}
 use Rattle.cell.specs.Events.{not_for_policy, waits, to_run, weight, delivers, delivered, outputs_dropped, futures_dropped, futures_lost}
 use Rattle.rack.specs.Racks.{Stepped}
 use Rattle.rack.specs.History.{Event, event, acted_on, names, concerns, life, runnable, handed_out, taken_back, alive, future_of, poll_word, words, awake, asked, total}

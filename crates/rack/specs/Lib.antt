@@ -1,5 +1,4 @@
 pub mod Racks
-pub mod Found
 pub mod History
 pub mod Law
 pub mod Runs

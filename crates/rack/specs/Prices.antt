@@ -3,7 +3,7 @@ use Rattle.std.specs.Prelude.{◌≡◌, ℕ, ◌+◌, cond, List, length, Some,
 use Rattle.cell.specs.declared.call.Call.{Call}
 use Rattle.cell.specs.declared.report.Fault.{Fault}
 use Rattle.cell.specs.declared.report.Report.{Report}
-use Rattle.cell.specs.Acts.{Cell}
+use Rattle.cell.specs.Keeps.{Cell}
 use Rattle.rack.specs.declared.price.Column.{Column}
 use Rattle.rack.specs.declared.price.Column.TheVariants.{TakenIn, Delivered, Discarded, Dropped, Lost}
 use Rattle.rack.specs.declared.price.PriceList.{PriceList}

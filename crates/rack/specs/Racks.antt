@@ -1,6 +1,6 @@
 -- What each call does to a rack: the bays and the policy side by side.
-use Rattle.std.specs.Prelude.{◌≡◌, ℕ, Bool, cond, not, ◌&&◌, ◌||◌, List, map, length, drop, replicate, is_some, Some, None, Ok, Err, Option, Result, ◌==◌, nat_le, nat_lt, slice_index_or, slice_set}
-use Rattle.jobs.specs.Step.{Step}
+use Rattle.std.specs.Prelude.{◌≡◌, ℕ, Bool, cond, not, ◌&&◌, ◌||◌, List, length, drop, replicate, is_some, Some, None, Ok, Err, Option, Result, ◌==◌, nat_le, nat_lt, slice_index_or, slice_set}
+use Rattle.polls.specs.Step.{Step}
 use Rattle.schedule.specs.declared.Schedule.{Ghosts}
 use Rattle.schedule.specs.Entries.{first, accepts}
 use Rattle.cell.specs.declared.call.Act.{Act}
@@ -10,9 +10,10 @@ use Rattle.cell.specs.declared.report.Answer.TheVariants as answer
 use Rattle.cell.specs.declared.report.Fault.{Fault}
 use Rattle.cell.specs.declared.report.Fault.TheVariants as fault
 use Rattle.cell.specs.declared.report.Report.{Report}
-use Rattle.cell.specs.declared.cell.Bay.{Bay}
 use Rattle.cell.specs.Steps.{says}
-use Rattle.cell.specs.Acts.{Cell, bay_of, Move, acted, spawned, taken}
+use Rattle.cell.specs.Acts.{acted, spawned, taken}
+use Rattle.cell.specs.Keeps.{Cell}
+use Rattle.cell.specs.declared.act.Move.{Move}
 
 -- what a call does to the policy
 pub data Shift : Type 0 where
@@ -31,18 +32,18 @@ abbrev pub shifted : ℕ → Option Bool → Shift
 shifted b None = stays
 shifted b (Some mark) = puts b mark
 
--- what is in the bays
-abbrev pub views : {F O : Type 0} → List (Bay F O) → List (Option (Cell F O))
-views bays = map bay_of bays
+-- the bays number 0 or more than 64
+abbrev pub crowded : ℕ → Bool
+crowded n = n == 0 || nat_lt 64 n
+
+-- how many bays there are, or the refusal
+abbrev pub counted : ℕ → Result ℕ Fault
+counted n = cond (crowded n) (Err fault.BayCount) (Ok n)
 
 module _ {F O : Type 0} where
-  -- the bays number 0 or more than 64
-  abbrev pub crowded : List (Option (Cell F O)) → Bool
-  crowded bays = length bays == 0 || nat_lt 64 (length bays)
-
   -- what is in the bay of a number
   abbrev pub located : List (Option (Cell F O)) → ℕ → Result (Option (Cell F O)) Fault
-  located bays b = cond (crowded bays) (Err fault.BayCount) (cond (nat_le (length bays) b) (Err fault.NoSuchBay) (Ok (slice_index_or bays b None)))
+  located bays b = cond (crowded (length bays)) (Err fault.BayCount) (cond (nat_le (length bays) b) (Err fault.NoSuchBay) (Ok (slice_index_or bays b None)))
 
   -- a refusal leaves the bays and the policy as they are
   abbrev pub refusal : List (Option (Cell F O)) → Fault → After F O
@@ -77,14 +78,17 @@ module _ {F O : Type 0} where
   waiting_in None = None
   waiting_in (Some c) = taken c
 
+  abbrev pub waiting_at : List (Option (Cell F O)) → ℕ → Option (Cell F O)
+  waiting_at bays b = waiting_in (slice_index_or bays b None)
+
   abbrev pub take_first : List (Option (Cell F O)) → Option ℕ → After F O
   take_first bays None = record { outcome = Ok (says answer.Nothing); bays = bays; shift = stays }
-  take_first bays (Some b) = cond (nat_le (length bays) b) (refusal bays fault.StrayEntry) (hand_over bays b (waiting_in (slice_index_or bays b None)))
+  take_first bays (Some b) = hand_over bays b (waiting_at bays b)
 
   -- Each call, by its tests and its step, where the policy has these entries and places.
   abbrev pub decided : (F → ℕ → Step F O) → List ℕ → ℕ → List (Option (Cell F O)) → Call F → After F O
   decided step entries places bays (Spawn b f) = spawn_into bays b f (located bays b)
-  decided step entries places bays Take = cond (crowded bays) (refusal bays fault.BayCount) (take_first bays (first entries))
+  decided step entries places bays Take = cond (crowded (length bays)) (refusal bays fault.BayCount) (take_first bays (first entries))
   decided step entries places bays (At b a) = act_on step entries places bays b a (located bays b)
 
 -- How the policy goes over from s to s'. The order after a put is the policy's own, `after`.
@@ -106,7 +110,7 @@ Stepped step P bays s call o bays' s' = Became P s (decided step (P.entries s) (
 -- Why an opening is refused, if it is: 0 bays or more than 64; a policy with an entry, or with fewer places than bays.
 abbrev pub unfit : ℕ → List ℕ → ℕ → Option Fault
 unfit bays entries places =
-    cond (bays == 0 || nat_lt 64 bays) (Some fault.BayCount)
+    cond (crowded bays) (Some fault.BayCount)
     (cond (is_some (first entries) || nat_lt places bays) (Some fault.PolicyUnfit) None)
 
 -- An opening answers the number of bays, all of them vacant now; or it is refused, and changes nothing.

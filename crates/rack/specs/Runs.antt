@@ -1,11 +1,11 @@
 -- What an opening and a list of calls come to.
 use Rattle.std.specs.Prelude.{◌≡◌, ℕ, cond, List, length, replicate, Some, None, Ok, Err, Option, Result, nat_lt}
-use Rattle.jobs.specs.Step.{Step}
+use Rattle.polls.specs.Step.{Step}
 use Rattle.schedule.specs.declared.Schedule.{Ghosts}
 use Rattle.cell.specs.declared.call.Call.{Call}
 use Rattle.cell.specs.declared.report.Fault.{Fault}
 use Rattle.cell.specs.declared.report.Report.{Report}
-use Rattle.cell.specs.Acts.{Cell}
+use Rattle.cell.specs.Keeps.{Cell}
 use Rattle.rack.specs.declared.run.Unserved.{Unserved}
 use Rattle.rack.specs.declared.run.Unserved.TheVariants.{Refused, NoRoom}
 use Rattle.rack.specs.History.{history}

@@ -1,50 +1,35 @@
 // The calls by number. Each is passed the bays and the policy, and gives a report or a refusal.
-ghost use Rattle.std.specs.Prelude.{◌≡◌, ◌<◌, length, Ok, Err, OnOk, slice_set};
-ghost use Rattle.cell.specs.Acts.{move_of};
-ghost use Rattle.cell.specs.Steps.{says as saying};
+// They are passed side by side, not as one struct: the caller has both, and may use either between two calls.
+// Each call is a function of its own, by its name in the rules; `act_at` has what they share. A bay that was found is
+// written by its number, since a `&mut` to it would need a clause on the bays once it is given back.
+ghost use Rattle.std.specs.Prelude.{◌≡◌, ◌<◌, length, Ok, OnOk, IfSome};
 ghost use Rattle.cell.specs.declared.call.Call.TheVariants.{Spawn, Take, At};
-ghost use Rattle.rack.specs.Racks.{views, located, settled, Became, Stepped};
-ghost use Rattle.rack.specs.Found.{found};
+ghost use Rattle.rack.specs.Racks.{counted, located, waiting_at, settled, Became, Stepped};
 
 use cell::act::Move;
 use cell::call::{Act, Call};
 use cell::cell::{Bay, Cell};
-use cell::report::{Answer, Fate, Fault, Report};
-use jobs::Future;
+use cell::report::{Answer, Fault, Report, Said};
+use polls::Future;
 use schedule::Schedule;
 
-fn says<O: Copy>(answer: Answer<O>) -> Report<O>
-    ensures { result ≡ saying answer }
+// How many bays there are: a rack has 1 to 64.
+pub(crate) fn counted<T>(bays: &[T]) -> Result<usize, Fault>
+    ensures { result ≡ counted (length bays.now) }
 {
-    Report {
-        answer,
-        put: None,
-        fate: Fate::Kept,
-        woken: None,
-        cleared: false,
+    if bays.is_empty() || bays.len() > 64 {
+        return Err(Fault::BayCount);
     }
+    Ok(bays.len())
 }
 
 // What is in the bay of a number.
 fn find<F: Copy, O: Copy>(bays: &[Bay<F, O>], bay: u32) -> Result<Bay<F, O>, Fault>
-    ensures value { found result ≡ located (views bays.now) bay }
+    ensures value { result ≡ located bays.now bay }
     ensures within { OnOk result (bay < length bays.now) }
 {
-    let at = bay as usize;
-    if bays.len() == 0 || bays.len() > 64 {
-        return Err(Fault::BayCount);
-    }
-    if at >= bays.len() {
-        return Err(Fault::NoSuchBay);
-    }
-    Ok(bays[at])
-}
-
-fn write<F: Copy, O: Copy>(bays: &mut [Bay<F, O>], bay: u32, left: Bay<F, O>)
-    requires { bay < length bays.old }
-    ensures { bays.new ≡ slice_set bays.old bay left }
-{
-    bays[bay as usize] = left;
+    counted(bays)?;
+    bays.get(bay as usize).copied().ok_or(Fault::NoSuchBay)
 }
 
 // Puts the bay's number if the move says so, and writes what becomes of the bay.
@@ -53,9 +38,9 @@ fn settle<F: Future, S: Schedule>(
     policy: &mut S,
     bay: u32,
     moved: Move<F, F::Output>,
-) -> Result<Report<F::Output>, Fault>
+) -> Said<F::Output>
     requires { bay < length bays.old }
-    ensures { Became S.Schedule policy.old (settled (S.Schedule.entries policy.old) (S.Schedule.places policy.old) (views bays.old) bay (move_of (Ok moved))) result (views bays.new) policy.new }
+    ensures { Became S.Schedule policy.old (settled (S.Schedule.entries policy.old) (S.Schedule.places policy.old) bays.old bay (Ok moved)) result bays.new policy.new }
 {
     let Move { bay: left, report } = moved;
     if let Some(mark) = report.put {
@@ -73,16 +58,12 @@ fn act_at<F: Future, S: Schedule>(
     policy: &mut S,
     bay: u32,
     act: Act,
-) -> Result<Report<F::Output>, Fault>
-    ensures { Stepped F.Future.step S.Schedule (views bays.old) policy.old (At bay act) result (views bays.new) policy.new }
+) -> Said<F::Output>
+    ensures { Stepped F.Future.step S.Schedule bays.old policy.old (At bay act) result bays.new policy.new }
 {
-    match find(bays, bay)? {
-        Bay::Vacant => Err(Fault::Vacant),
-        Bay::Occupied(cell) => {
-            let moved = cell.act(act)?;
-            settle(bays, policy, bay, moved)
-        }
-    }
+    let cell = find(bays, bay)?.ok_or(Fault::Vacant)?;
+    let moved = cell.act(act)?;
+    settle(bays, policy, bay, moved)
 }
 
 // A future becomes a task in a vacant bay.
@@ -91,45 +72,43 @@ pub fn spawn<F: Future, S: Schedule>(
     _policy: &mut S,
     bay: u32,
     future: F,
-) -> Result<Report<F::Output>, Fault>
-    ensures { Stepped F.Future.step S.Schedule (views bays.old) _policy.old (Spawn bay future) result (views bays.new) _policy.new }
+) -> Said<F::Output>
+    ensures { Stepped F.Future.step S.Schedule bays.old _policy.old (Spawn bay future) result bays.new _policy.new }
 {
-    match find(bays, bay)? {
-        Bay::Occupied(_) => Err(Fault::Occupied),
-        Bay::Vacant => {
-            bays[bay as usize] = Bay::Occupied(Cell::spawn(future));
-            Ok(says(Answer::Done))
-        }
-    }
+    let None = find(bays, bay)? else {
+        return Err(Fault::Occupied);
+    };
+    bays[bay as usize] = Some(Cell::spawn(future));
+    Ok(Report::of(Answer::Done))
+}
+
+// The cell of a bay with its Runnable in hand, if the bay is there and its Runnable waits.
+fn waiting<F: Future>(bays: &[Bay<F, F::Output>], bay: u32) -> Option<Cell<F, F::Output>>
+    ensures value { result ≡ waiting_at bays.now bay }
+    ensures within { IfSome result (λ _. bay < length bays.now) }
+{
+    let cell = (*bays.get(bay as usize)?)?;
+    cell.take()
 }
 
 // The Runnable of the policy's first entry comes to hand.
 pub fn take<F: Future, S: Schedule>(
     bays: &mut [Bay<F, F::Output>],
     policy: &mut S,
-) -> Result<Report<F::Output>, Fault>
-    ensures { Stepped F.Future.step S.Schedule (views bays.old) policy.old Take result (views bays.new) policy.new }
+) -> Said<F::Output>
+    ensures { Stepped F.Future.step S.Schedule bays.old policy.old Take result bays.new policy.new }
 {
-    if bays.len() == 0 || bays.len() > 64 {
-        return Err(Fault::BayCount);
-    }
+    counted(bays)?;
     let Some(bay) = policy.peek() else {
-        return Ok(says(Answer::Nothing));
+        return Ok(Report::of(Answer::Nothing));
     };
-    let at = bay as usize;
-    if at >= bays.len() {
-        return Err(Fault::StrayEntry);
-    }
-    let there = bays[at];
-    let Bay::Occupied(cell) = there else {
-        return Err(Fault::StrayEntry);
-    };
-    let Some(cell) = cell.take() else {
+    // not by `ok_or`, which does not carry that the bay is one of the rack's
+    let Some(cell) = waiting(bays, bay) else {
         return Err(Fault::StrayEntry);
     };
     let _ = policy.take();
-    write(bays, bay, Bay::Occupied(cell));
-    Ok(says(Answer::Found(bay)))
+    bays[bay as usize] = Some(cell);
+    Ok(Report::of(Answer::Found(bay)))
 }
 
 // Puts a Runnable that is in hand.
@@ -137,8 +116,8 @@ pub fn schedule<F: Future, S: Schedule>(
     bays: &mut [Bay<F, F::Output>],
     policy: &mut S,
     bay: u32,
-) -> Result<Report<F::Output>, Fault>
-    ensures { Stepped F.Future.step S.Schedule (views bays.old) policy.old (At bay (Act.Schedule)) result (views bays.new) policy.new }
+) -> Said<F::Output>
+    ensures { Stepped F.Future.step S.Schedule bays.old policy.old (At bay (Act.Schedule)) result bays.new policy.new }
 {
     act_at(bays, policy, bay, Act::Schedule)
 }
@@ -148,8 +127,8 @@ pub fn begin<F: Future, S: Schedule>(
     bays: &mut [Bay<F, F::Output>],
     policy: &mut S,
     bay: u32,
-) -> Result<Report<F::Output>, Fault>
-    ensures { Stepped F.Future.step S.Schedule (views bays.old) policy.old (At bay (Act.Begin)) result (views bays.new) policy.new }
+) -> Said<F::Output>
+    ensures { Stepped F.Future.step S.Schedule bays.old policy.old (At bay (Act.Begin)) result bays.new policy.new }
 {
     act_at(bays, policy, bay, Act::Begin)
 }
@@ -160,8 +139,8 @@ pub fn poll<F: Future, S: Schedule>(
     policy: &mut S,
     bay: u32,
     word: u32,
-) -> Result<Report<F::Output>, Fault>
-    ensures { Stepped F.Future.step S.Schedule (views bays.old) policy.old (At bay (Act.Poll word)) result (views bays.new) policy.new }
+) -> Said<F::Output>
+    ensures { Stepped F.Future.step S.Schedule bays.old policy.old (At bay (Act.Poll word)) result bays.new policy.new }
 {
     act_at(bays, policy, bay, Act::Poll(word))
 }
@@ -171,8 +150,8 @@ pub fn finish<F: Future, S: Schedule>(
     bays: &mut [Bay<F, F::Output>],
     policy: &mut S,
     bay: u32,
-) -> Result<Report<F::Output>, Fault>
-    ensures { Stepped F.Future.step S.Schedule (views bays.old) policy.old (At bay (Act.Finish)) result (views bays.new) policy.new }
+) -> Said<F::Output>
+    ensures { Stepped F.Future.step S.Schedule bays.old policy.old (At bay (Act.Finish)) result bays.new policy.new }
 {
     act_at(bays, policy, bay, Act::Finish)
 }
@@ -182,8 +161,8 @@ pub fn drop_runnable<F: Future, S: Schedule>(
     bays: &mut [Bay<F, F::Output>],
     policy: &mut S,
     bay: u32,
-) -> Result<Report<F::Output>, Fault>
-    ensures { Stepped F.Future.step S.Schedule (views bays.old) policy.old (At bay (Act.DropRunnable)) result (views bays.new) policy.new }
+) -> Said<F::Output>
+    ensures { Stepped F.Future.step S.Schedule bays.old policy.old (At bay (Act.DropRunnable)) result bays.new policy.new }
 {
     act_at(bays, policy, bay, Act::DropRunnable)
 }
@@ -193,8 +172,8 @@ pub fn clone<F: Future, S: Schedule>(
     bays: &mut [Bay<F, F::Output>],
     policy: &mut S,
     bay: u32,
-) -> Result<Report<F::Output>, Fault>
-    ensures { Stepped F.Future.step S.Schedule (views bays.old) policy.old (At bay (Act.Clone)) result (views bays.new) policy.new }
+) -> Said<F::Output>
+    ensures { Stepped F.Future.step S.Schedule bays.old policy.old (At bay (Act.Clone)) result bays.new policy.new }
 {
     act_at(bays, policy, bay, Act::Clone)
 }
@@ -204,8 +183,8 @@ pub fn wake_by_ref<F: Future, S: Schedule>(
     bays: &mut [Bay<F, F::Output>],
     policy: &mut S,
     bay: u32,
-) -> Result<Report<F::Output>, Fault>
-    ensures { Stepped F.Future.step S.Schedule (views bays.old) policy.old (At bay (Act.WakeByRef)) result (views bays.new) policy.new }
+) -> Said<F::Output>
+    ensures { Stepped F.Future.step S.Schedule bays.old policy.old (At bay (Act.WakeByRef)) result bays.new policy.new }
 {
     act_at(bays, policy, bay, Act::WakeByRef)
 }
@@ -215,8 +194,8 @@ pub fn wake<F: Future, S: Schedule>(
     bays: &mut [Bay<F, F::Output>],
     policy: &mut S,
     bay: u32,
-) -> Result<Report<F::Output>, Fault>
-    ensures { Stepped F.Future.step S.Schedule (views bays.old) policy.old (At bay (Act.Wake)) result (views bays.new) policy.new }
+) -> Said<F::Output>
+    ensures { Stepped F.Future.step S.Schedule bays.old policy.old (At bay (Act.Wake)) result bays.new policy.new }
 {
     act_at(bays, policy, bay, Act::Wake)
 }
@@ -226,8 +205,8 @@ pub fn drop_waker<F: Future, S: Schedule>(
     bays: &mut [Bay<F, F::Output>],
     policy: &mut S,
     bay: u32,
-) -> Result<Report<F::Output>, Fault>
-    ensures { Stepped F.Future.step S.Schedule (views bays.old) policy.old (At bay (Act.DropWaker)) result (views bays.new) policy.new }
+) -> Said<F::Output>
+    ensures { Stepped F.Future.step S.Schedule bays.old policy.old (At bay (Act.DropWaker)) result bays.new policy.new }
 {
     act_at(bays, policy, bay, Act::DropWaker)
 }
@@ -238,8 +217,8 @@ pub fn poll_task<F: Future, S: Schedule>(
     policy: &mut S,
     bay: u32,
     waiter: u32,
-) -> Result<Report<F::Output>, Fault>
-    ensures { Stepped F.Future.step S.Schedule (views bays.old) policy.old (At bay (Act.PollTask waiter)) result (views bays.new) policy.new }
+) -> Said<F::Output>
+    ensures { Stepped F.Future.step S.Schedule bays.old policy.old (At bay (Act.PollTask waiter)) result bays.new policy.new }
 {
     act_at(bays, policy, bay, Act::PollTask(waiter))
 }
@@ -249,8 +228,8 @@ pub fn cancel<F: Future, S: Schedule>(
     bays: &mut [Bay<F, F::Output>],
     policy: &mut S,
     bay: u32,
-) -> Result<Report<F::Output>, Fault>
-    ensures { Stepped F.Future.step S.Schedule (views bays.old) policy.old (At bay (Act.Cancel)) result (views bays.new) policy.new }
+) -> Said<F::Output>
+    ensures { Stepped F.Future.step S.Schedule bays.old policy.old (At bay (Act.Cancel)) result bays.new policy.new }
 {
     act_at(bays, policy, bay, Act::Cancel)
 }
@@ -260,8 +239,8 @@ pub fn detach<F: Future, S: Schedule>(
     bays: &mut [Bay<F, F::Output>],
     policy: &mut S,
     bay: u32,
-) -> Result<Report<F::Output>, Fault>
-    ensures { Stepped F.Future.step S.Schedule (views bays.old) policy.old (At bay (Act.Detach)) result (views bays.new) policy.new }
+) -> Said<F::Output>
+    ensures { Stepped F.Future.step S.Schedule bays.old policy.old (At bay (Act.Detach)) result bays.new policy.new }
 {
     act_at(bays, policy, bay, Act::Detach)
 }
@@ -271,19 +250,19 @@ pub fn drop_task<F: Future, S: Schedule>(
     bays: &mut [Bay<F, F::Output>],
     policy: &mut S,
     bay: u32,
-) -> Result<Report<F::Output>, Fault>
-    ensures { Stepped F.Future.step S.Schedule (views bays.old) policy.old (At bay (Act.DropTask)) result (views bays.new) policy.new }
+) -> Said<F::Output>
+    ensures { Stepped F.Future.step S.Schedule bays.old policy.old (At bay (Act.DropTask)) result bays.new policy.new }
 {
     act_at(bays, policy, bay, Act::DropTask)
 }
 
-// One call.
+// One call. It comes in a list of calls, so it is a case and no closure.
 pub fn call<F: Future, S: Schedule>(
     bays: &mut [Bay<F, F::Output>],
     policy: &mut S,
     call: Call<F>,
-) -> Result<Report<F::Output>, Fault>
-    ensures { Stepped F.Future.step S.Schedule (views bays.old) policy.old call result (views bays.new) policy.new }
+) -> Said<F::Output>
+    ensures { Stepped F.Future.step S.Schedule bays.old policy.old call result bays.new policy.new }
 {
     match call {
         Call::Spawn { bay, future } => spawn(bays, policy, bay, future),

@@ -1,8 +1,7 @@
 // The price list: what became of the tapes that were taken in.
 ghost use Rattle.std.specs.Prelude.{◌≡◌, ◌≤◌, length, IfOk, vec_capacity, OnOk};
-ghost use Rattle.rack.specs.Racks.{views, unfit};
+ghost use Rattle.rack.specs.Racks.{unfit};
 ghost use Rattle.rack.specs.History.{event, history, total};
-ghost use Rattle.cell.specs.Acts.{bay_of};
 ghost use Rattle.rack.specs.Law.{in_bay, standing_in};
 ghost use Rattle.rack.specs.Prices.{column, price_list, priced, Balances};
 ghost use Rattle.rack.specs.Runs.{Serves, unserved, Refuses};
@@ -11,8 +10,8 @@ use super::run::{Unserved, run};
 use cell::call::Call;
 use cell::cell::Bay;
 use cell::raw::Content;
-use cell::report::{Answer, Fate, Fault, Report};
-use jobs::Future;
+use cell::report::{Answer, Fate, Said};
+use polls::Future;
 use schedule::Schedule;
 
 #[derive(Clone, Copy)]
@@ -41,8 +40,9 @@ pub enum Column {
     Lost,
 }
 
-// What one call adds to a column.
-fn adds<F: Copy, O: Copy>(kind: Column, call: Call<F>, said: Result<Report<O>, Fault>) -> usize
+// What one call adds to a column. A column is a case and no closure, so that one definition says what it counts; and a
+// number and no test, as the columns are numbers that add up.
+fn adds<F: Copy, O: Copy>(kind: Column, call: Call<F>, said: Said<O>) -> usize
     ensures value { result ≡ column kind (event call said) }
     ensures small { result ≤ 1 }
 {
@@ -50,7 +50,7 @@ fn adds<F: Copy, O: Copy>(kind: Column, call: Call<F>, said: Result<Report<O>, F
         return 0;
     };
     match (kind, call, report.answer, report.fate) {
-        (Column::TakenIn, Call::Spawn { bay: _, future: _ }, _, _) => 1,
+        (Column::TakenIn, Call::Spawn { .. }, _, _) => 1,
         (Column::Delivered, _, Answer::Delivered(_), _) => 1,
         (Column::Discarded, _, _, Fate::OutputDropped) => 1,
         (Column::Dropped, _, _, Fate::FutureDropped) => 1,
@@ -59,66 +59,65 @@ fn adds<F: Copy, O: Copy>(kind: Column, call: Call<F>, said: Result<Report<O>, F
     }
 }
 
-// What a list of calls adds to a column, with the report of each call.
-fn tally<F: Copy, O: Copy>(
-    kind: Column,
-    calls: &[Call<F>],
-    said: &[Result<Report<O>, Fault>],
-) -> usize
-    requires { length calls.now ≡ length said.now }
+// What a list of calls adds to a column, with the report of each call. The reports stand in a list of their own, as
+// `run` leaves them.
+fn tally<F: Copy, O: Copy>(kind: Column, calls: &[Call<F>], said: &[Said<O>]) -> usize
     ensures { result ≡ total (column kind) (history calls.now said.now) }
 {
     let mut sum: usize = 0;
-    for i in 0..calls.len() {
-        sum += adds(kind, calls[i], said[i]);
+    for (call, said) in calls.iter().zip(said) {
+        sum += adds(kind, *call, *said);
     }
     sum
 }
 
 fn stands<F: Copy, O: Copy>(bay: Bay<F, O>) -> usize
-    ensures value { result ≡ in_bay (bay_of bay) }
+    ensures value { result ≡ in_bay bay }
     ensures small { result ≤ 1 }
 {
-    let Bay::Occupied(cell) = bay else {
-        return 0;
-    };
-    match cell.task.content {
-        Content::Future(_) => 1,
-        Content::Output(_) => 1,
-        Content::Empty => 0,
+    match bay {
+        Some(cell) if !matches!(cell.task.content, Content::Empty) => 1,
+        _ => 0,
     }
 }
 
 // How many futures and outputs stand in the bays.
 pub fn standing<F: Copy, O: Copy>(bays: &[Bay<F, O>]) -> usize
-    ensures { result ≡ standing_in (views bays.now) }
+    ensures { result ≡ standing_in bays.now }
 {
     let mut sum: usize = 0;
-    for i in 0..bays.len() {
-        sum += stands(bays[i]);
+    for bay in bays {
+        sum += stands(*bay);
     }
     sum
 }
 
-// The price list of the calls and their reports, with what stands in the bays; none if they are not as many.
-pub fn price_list<F: Copy, O: Copy>(
-    calls: &[Call<F>],
-    said: &[Result<Report<O>, Fault>],
-    bays: &[Bay<F, O>],
-) -> Option<PriceList>
-    ensures { result ≡ priced calls.now said.now (views bays.now) }
+// The price list of the calls and their reports, as far as both go, with what stands in the bays.
+fn draw_up<F: Copy, O: Copy>(calls: &[Call<F>], said: &[Said<O>], bays: &[Bay<F, O>]) -> PriceList
+    ensures { result ≡ price_list (history calls.now said.now) bays.now }
 {
-    if calls.len() != said.len() {
-        return None;
-    }
-    Some(PriceList {
+    PriceList {
         taken_in: tally(Column::TakenIn, calls, said),
         delivered: tally(Column::Delivered, calls, said),
         discarded: tally(Column::Discarded, calls, said),
         dropped: tally(Column::Dropped, calls, said),
         lost: tally(Column::Lost, calls, said),
         standing: standing(bays),
-    })
+    }
+}
+
+// The price list of the calls and their reports, with what stands in the bays; none if they are not as many.
+pub fn price_list<F: Copy, O: Copy>(
+    calls: &[Call<F>],
+    said: &[Said<O>],
+    bays: &[Bay<F, O>],
+) -> Option<PriceList>
+    ensures { result ≡ priced calls.now said.now bays.now }
+{
+    if calls.len() != said.len() {
+        return None;
+    }
+    Some(draw_up(calls, said, bays))
 }
 
 // Opens the rack, carries out the calls and draws up the price list, which balances.
@@ -126,18 +125,13 @@ pub fn run_priced<F: Future, S: Schedule>(
     bays: &mut [Bay<F, F::Output>],
     policy: &mut S,
     calls: &[Call<F>],
-    reports: &mut Vec<Result<Report<F::Output>, Fault>>,
+    reports: &mut Vec<Said<F::Output>>,
 ) -> Result<PriceList, Unserved>
-    ensures served { OnOk result (Serves F.Future.step S.Schedule (views bays.old) policy.old calls.now reports.new.items (views bays.new) policy.new) }
-    ensures refused { Refuses (unserved (length calls.now) (vec_capacity reports.old) (unfit (length bays.old) (S.Schedule.entries policy.old) (S.Schedule.places policy.old))) result (views bays.old) (views bays.new) policy.old policy.new reports.old reports.new }
-    ensures priced { IfOk result (λ p. p ≡ price_list (history calls.now reports.new.items) (views bays.new)) }
+    ensures served { OnOk result (Serves F.Future.step S.Schedule bays.old policy.old calls.now reports.new.items bays.new policy.new) }
+    ensures refused { Refuses (unserved (length calls.now) (vec_capacity reports.old) (unfit (length bays.old) (S.Schedule.entries policy.old) (S.Schedule.places policy.old))) result bays.old bays.new policy.old policy.new reports.old reports.new }
+    ensures priced { IfOk result (λ p. p ≡ price_list (history calls.now reports.new.items) bays.new) }
     ensures balanced { IfOk result Balances }
 {
-    if let Err(why) = run(bays, policy, calls, reports) {
-        return Err(why);
-    }
-    let Some(list) = price_list(calls, reports.as_slice(), bays) else {
-        unreachable()
-    };
-    Ok(list)
+    run(bays, policy, calls, reports)?;
+    Ok(draw_up(calls, reports, bays))
 }

@@ -1,5 +1,6 @@
 -- What goes in comes out once: by induction over the requests.
-use Rattle.std.proofs.Common.{◌≡◌, ℕ, ◌+◌, Bool, true, false, Some, None, not, ◌&&◌, eqb, ltb, List, [], ◌∷◌, length, sym, refl, ap, ◌∙◌, arith, length-append}
+use Rattle.std.proofs.Common.{◌≡◌, ℕ, ◌+◌, Bool, true, false, Some, None, not, ◌&&◌, ltb, List, [], ◌∷◌, length, sym, refl, ap, ◌∙◌, arith, length-append}
+use Rattle.std.proofs.lemmas.Bool.{eq-eqb}
 use Rattle.std.proofs.lemmas.Bool.Decides.{nat_tests}
 use Rattle.std.proofs.lemmas.List.Sorted.{length_permutation as length-shuffled}
 use Rattle.std.specs.List.Sorted.{IsPermutation}
@@ -13,9 +14,6 @@ use Rattle.schedule.specs.History.{Event, event, put_in, took_out, ins, outs, ti
 use Rattle.schedule.specs.Requests.{Obeys, Ran, Ruled, Once}
 use Rattle.schedule.proofs.Happens.{Happens, goes_in, stays_out, comes_out, none_there, happens, same_places, still_agrees, along}
 use Rattle.schedule.proofs.Times.{times_cons, times_append, times_shuffled, is_in_times, distinct_times}
-
-eqb_self : (b : ℕ) → eqb b b ≡ true
-eqb_self b = grind (arith, nat_tests)
 
 -- what the history says is inside is what the entries are
 inside_is : (b : ℕ) (h : List Event) (es : List ℕ) → times b (ins h) ≡ times b (outs h) + times b es → inside b h ≡ is_in b es
@@ -36,17 +34,13 @@ module _ {S : Type 0} (P : Ghosts S)
     pub long : length (ins h) ≡ length (outs h) + length (P.entries s)
 
   -- a put is accepted by the history exactly if it is by the entries
-  accepted_is : (n b : ℕ) (h : List Event) (s : S) → Keeps n h s
-      → accepts b (P.entries s) (P.places s) ≡ (ltb b 64 && (not (inside b h) && ltb (held h) n))
-  accepted_is n b h s k =
+  answer_is : (n b : ℕ) (h : List Event) (s : S) → Keeps n h s → (t : Bool) → accepts b (P.entries s) (P.places s) ≡ t
+      → Accepted t ≡ Accepted (ltb b 64 && (not (inside b h) && ltb (held h) n))
+  answer_is n b h s k t e =
       let i = inside_is b h (P.entries s) (k.balance b) in
       let j = held_is h (P.entries s) k.long in
       let r = k.room in
-      rw (i, j, r) refl
-
-  answer_is : (n b : ℕ) (h : List Event) (s : S) → Keeps n h s → (t : Bool) → accepts b (P.entries s) (P.places s) ≡ t
-      → Accepted t ≡ Accepted (ltb b 64 && (not (inside b h) && ltb (held h) n))
-  answer_is n b h s k t e = ap Accepted (sym e ∙ accepted_is n b h s k)
+      ap Accepted (sym e ∙ rw (i, j, r) refl)
 
   -- one event more: what it put in and what was there is what it took out and what is there now
   keeps_more : (n : ℕ) (h : List Event) (e : Event) (s s' : S) → Keeps n h s → P.agrees s' → P.places s' ≡ P.places s → Ruled n h e
@@ -65,7 +59,6 @@ module _ {S : Type 0} (P : Ghosts S)
     long =
         (let i = length-append (ins h) (put_in e) in
         let o = length-append (outs h) (took_out e) in
-        let q = k.long in
         omega arith);
   }
 
@@ -88,7 +81,7 @@ module _ {S : Type 0} (P : Ghosts S)
       let l' : length (P.entries s') ≡ length es = ap length i in
       let held_by = held_is h (P.entries s) k.long in
       keeps_more n h (event Take (Gave (Some b))) s s' k g p
-      (inside_is b h (P.entries s) (k.balance b) ∙ ap (is_in b) q ∙ (let t = eqb_self b in rw t refl), omega arith)
+      (inside_is b h (P.entries s) (k.balance b) ∙ ap (is_in b) q ∙ (let t = eq-eqb b b refl in rw t refl), omega arith)
       (λ c. let v : times c (P.entries s') ≡ times c es = ap (times c) i in
       let w : times c (P.entries s) ≡ times c (b ∷ es) = ap (times c) q in
       let x = times_cons c b es in

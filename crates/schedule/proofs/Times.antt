@@ -1,5 +1,6 @@
 -- How often a number stands in a list.
-use Rattle.std.proofs.Common.{◌≡◌, ℕ, ◌+◌, ◌≤◌, Bool, true, false, cond, not, ◌&&◌, eqb, ltb, List, [], ◌∷◌, ◌++◌, refl, ap, arith}
+use Rattle.std.proofs.Common.{◌≡◌, ℕ, ◌+◌, ◌≤◌, true, cond, eqb, ltb, List, [], ◌∷◌, ◌++◌, sym, refl, ap, ◌∙◌, zero-add, arith}
+use Rattle.std.proofs.lemmas.Bool.{eq-eqb, ne_eqb}
 use Rattle.std.proofs.lemmas.Bool.Decides.{nat_tests}
 use Rattle.std.proofs.lemmas.List.Sums.{sum_by-cons, sum_by-append}
 use Rattle.std.proofs.lemmas.List.Sorted.{sum_by-IsPermutation, IsPermutation-swap}
@@ -9,6 +10,13 @@ use Rattle.schedule.specs.History.{times}
 
 pub times_cons : (b x : ℕ) (xs : List ℕ) → times b (x ∷ xs) ≡ cond (eqb x b) 1 0 + times b xs
 times_cons b x xs = sum_by-cons (λ y. cond (eqb y b) 1 0) x xs
+
+-- a number at the front counts for itself, and for no other
+pub times_own : (b : ℕ) (xs : List ℕ) → times b (b ∷ xs) ≡ 1 + times b xs
+times_own b xs = times_cons b b xs ∙ ap (λ t. cond t 1 0 + times b xs) (eq-eqb b b refl)
+
+pub times_other : (k b : ℕ) (xs : List ℕ) → (k ≡ b → ⊥) → times k (b ∷ xs) ≡ times k xs
+times_other k b xs d = times_cons k b xs ∙ ap (λ t. cond t 1 0 + times k xs) (ne_eqb b k (λ e. d (sym e))) ∙ zero-add (times k xs)
 
 pub times_append : (b : ℕ) (xs ys : List ℕ) → times b (xs ++ ys) ≡ times b xs + times b ys
 times_append b xs ys = sum_by-append (λ y. cond (eqb y b) 1 0) xs ys
@@ -26,15 +34,8 @@ distinct_times b (x ∷ xs) h =
     let e = times_cons b x xs in
     let i : distinct xs ≡ true → times b xs ≤ 1 = distinct_times b xs in
     let j = is_in_times x xs in
-    by_test (eqb x b) refl e i j h
-  where
-    by_test : (t : Bool) → eqb x b ≡ t → times b (x ∷ xs) ≡ cond (eqb x b) 1 0 + times b xs → (distinct xs ≡ true → times b xs ≤ 1) → is_in x xs ≡ ltb 0 (times x xs)
-        → (not (is_in x xs) && distinct xs) ≡ true → times b (x ∷ xs) ≤ 1
-    by_test true t e i j h =
-        let s : x ≡ b = grind (arith, nat_tests) in
-        let u : times x xs ≡ times b xs = ap (λ k. times k xs) s in
-        grind (arith, nat_tests)
-    by_test false t e i j h = grind (arith, nat_tests)
+    let u : x ≡ b → times x xs ≡ times b xs = λ s. ap (λ k. times k xs) s in
+    grind (arith, nat_tests)
 
 -- two at the front change places
 pub swapped : (b f : ℕ) (es : List ℕ) → IsPermutation (b ∷ f ∷ es) (f ∷ b ∷ es)

@@ -25,6 +25,7 @@ pub enum Unserved {
     NoRoom,
 }
 
+// A request comes in a list, so it is a case and no closure.
 fn obey<S: Schedule>(policy: &mut S, request: Request) -> Answer
     ensures { Obeys S.Schedule policy.old request result policy.new }
 {

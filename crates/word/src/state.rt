@@ -1,7 +1,10 @@
-// The flags of a state word, in its low byte, and the number of references above them.
+// The state word of a task cell, seen by its flags and its count.
 ghost use Rattle.std.specs.Prelude.{◌≡◌, ◌<◌};
-ghost use Rattle.word.specs.State.{all_flags, has, count, is_open, with_flags, without_flags, SetsOnly, ClearsOnly};
-ghost use Rattle.word.specs.Words.{read, setting, clearing, referenced, released, Whole};
+ghost use Rattle.bits.specs.State.{all_flags, has, is_open, with_flags, without_flags};
+ghost use Rattle.bits.specs.Words.{read, number, any_of, setting, clearing, referenced, released, still_open};
+
+pub use bits::flags_are_apart;
+use std::marker::Model;
 
 // Set if the task is scheduled for running: its Runnable exists and is not being polled,
 // or it was woken while it is polled.
@@ -47,67 +50,111 @@ pub fn flags() -> [u32; 8]
     ]
 }
 
-// Whether one of `flags` is set.
-pub fn has(state: u32, flags: u32) -> bool
-    ensures { result ≡ has state flags }
-{
-    state & flags != 0
+// A word: eight flags and the number of references. Contracts see it by these parts.
+#[derive(Clone, Copy)]
+pub struct State {
+    bits: u32,
 }
 
-// The number of references.
-pub fn count(state: u32) -> u32
-    ensures { result ≡ count state }
-{
-    state / REFERENCE
+impl Model for State {
+    ghost use Rattle.bits.specs.Words.{Word, read, number};
+    ghost use Rattle.bits.proofs.Words.{number_read};
+    ghost use Rattle.std.proofs.Common.{ap};
+
+    ghost Value = { Word };
+
+    ghost view = { λ s. read s.bits };
+
+    ghost inverse = { λ w. record { bits = number w } };
+
+    // a word is the sum of its parts
+    ghost inverse_ok = { λ s _. ap (λ n. record { bits = n }) (number_read s.bits) };
 }
 
-// Whether the task is neither completed nor closed.
-pub fn is_open(state: u32) -> bool
-    ensures { result ≡ is_open state }
-{
-    !has(state, COMPLETED) && !has(state, CLOSED)
-}
+// A word by its number.
+impl From<u32> for State {
+    ghost from_gives = { λ n s. s ≡ read n };
 
-// The word with `flags` set.
-pub fn with(state: u32, flags: u32) -> u32
-    ensures value { result ≡ with_flags state flags }
-    ensures parts { flags < 256 → read result ≡ setting flags (read state) }
-{
-    state | flags
-}
-
-// The word with `flags` cleared.
-pub fn without(state: u32, flags: u32) -> u32
-    ensures value { result ≡ without_flags state flags }
-    ensures parts { flags < 256 → read result ≡ clearing flags (read state) }
-{
-    state & !flags
-}
-
-// The word with one reference more. At the largest count it stays as it is.
-pub fn more(state: u32) -> u32
-    ensures { read result ≡ referenced (read state) }
-{
-    if count(state) == 16777215 {
-        return state;
+    fn from(bits: u32) -> State {
+        State { bits }
     }
-    state + REFERENCE
 }
 
-// The word with one reference less. With none it stays as it is.
-pub fn less(state: u32) -> u32
-    ensures { read result ≡ released (read state) }
-{
-    if count(state) == 0 {
-        return state;
+// The number of a word.
+impl From<State> for u32 {
+    ghost from_gives = { λ s n. n ≡ number s };
+
+    fn from(state: State) -> u32 {
+        state.bits
     }
-    state - REFERENCE
 }
 
-// Theorems, and no code: `with` and `without` change the flags that they are given, and nothing else;
-// and a word is determined by its parts.
-pub fn flags_are_apart()
-    ensures sets { SetsOnly }
-    ensures clears { ClearsOnly }
-    ensures whole { Whole }
-{}
+// Flags are numbers, as in the original. Any number may be passed for them; what is said of the parts holds of the flags.
+impl State {
+    // Whether one of `flags` is set.
+    pub fn has(self, flags: u32) -> bool
+        ensures value { result ≡ has (number self) flags }
+        ensures parts { flags < 256 → result ≡ any_of flags self }
+    {
+        self.bits & flags != 0
+    }
+
+    // The number of references.
+    pub fn count(self) -> u32
+        ensures { result ≡ self.count }
+    {
+        self.bits / REFERENCE
+    }
+
+    // Whether the task is neither completed nor closed.
+    pub fn is_open(self) -> bool
+        ensures value { result ≡ is_open (number self) }
+        ensures parts { result ≡ still_open self }
+    {
+        !self.has(COMPLETED) && !self.has(CLOSED)
+    }
+
+    // The word with `flags` set.
+    pub fn with(self, flags: u32) -> State
+        ensures value { number result ≡ with_flags (number self) flags }
+        ensures parts { flags < 256 → result ≡ setting flags self }
+    {
+        State {
+            bits: self.bits | flags,
+        }
+    }
+
+    // The word with `flags` cleared.
+    pub fn without(self, flags: u32) -> State
+        ensures value { number result ≡ without_flags (number self) flags }
+        ensures parts { flags < 256 → result ≡ clearing flags self }
+    {
+        State {
+            bits: self.bits & !flags,
+        }
+    }
+
+    // The word with one reference more. At the largest count it stays as it is.
+    pub fn more(self) -> State
+        ensures { result ≡ referenced self }
+    {
+        if self.count() == u32::MAX / REFERENCE {
+            return self;
+        }
+        State {
+            bits: self.bits + REFERENCE,
+        }
+    }
+
+    // The word with one reference less. With none it stays as it is.
+    pub fn less(self) -> State
+        ensures { result ≡ released self }
+    {
+        if self.count() == 0 {
+            return self;
+        }
+        State {
+            bits: self.bits - REFERENCE,
+        }
+    }
+}

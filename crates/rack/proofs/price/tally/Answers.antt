@@ -1,26 +1,20 @@
-use Rattle.std.proofs.Common.{◌<◌, length, take, ap, ◌∙◌, arith}
-use Rattle.std.proofs.lemmas.List.{take_all}
-use Rattle.rack.specs.History.{history, total}
+use Rattle.std.proofs.Common.{rules, length, arith}
+use Rattle.std.proofs.lemmas.List.{length_push}
+use Rattle.std.proofs.lemmas.Slice.Zip.{zip_turn, zip_end}
 use Rattle.rack.specs.Prices.{column}
-use Rattle.rack.proofs.Pricing.{total_more}
+use Rattle.rack.proofs.Pricing.{total_more, total_all}
 use Rattle.rack.proofs.price.tally.Goals as goal
 
-pub overflow_add-sum : goal.overflow_add-sum
-overflow_add-sum g c = let a = c.adds-sum.ensures.small in omega arith
-
-pub loop-i-preserved : goal.loop-i-preserved
-loop-i-preserved g c =
-    let a = c.adds-sum.ensures in
-    let m : c.loop-i.i < length c.args.said.now = omega arith in
-    let t = total_more (column c.args.kind) c.args.calls.now c.args.said.now c.loop-i.i c.index-calls-i.result c.index-said-i.result c.loop-i-test.true m c.index-calls-i.is c.index-said-i.is in
-    let s = a.small in
-    let v = a.value in
-    let w = c.loop-i.invariant.1 in
-    (omega arith, omega arith)
+pub loop-call-preserved : goal.loop-call-preserved
+loop-call-preserved g c =
+    let xs = c.loop-call.yielded in
+    let t = zip_turn c.args.calls.now c.args.said.now xs _ c.loop-call.call-iterator c.next.new.self c.next.result (search rules) (search rules) c.loop-call.yielded_by (c.in-Some.call, c.in-Some.said) c.in-Some.is c.next.ensures.steps in
+    let more = total_more (column c.args.kind) c.args.calls.now c.args.said.now (length xs) c.in-Some.call.now c.in-Some.said.now t.0 t.1 (t.2 _) (t.3 _) in
+    let n = length_push xs (c.in-Some.call, c.in-Some.said) in
+    rw n (omega arith, omega arith)
 
 pub returns : goal.returns
 returns g c =
-    let k = column c.args.kind in
-    let m = c.requires in
-    c.loop-i.invariant.1 ∙ ap (λ x. total k (history x (take c.loop-i.i c.args.said.now))) (take_all c.loop-i.i c.args.calls.now c.loop-i-test.false)
-    ∙ ap (λ x. total k (history c.args.calls.now x)) (take_all c.loop-i.i c.args.said.now (omega arith))
+    let xs = c.loop-call.yielded in
+    let e = zip_end c.args.calls.now c.args.said.now xs _ c.loop-call.call-iterator c.next.new.self c.next.result (search rules) (search rules) c.loop-call.yielded_by c.in-None.is c.next.ensures.steps in
+    total_all (column c.args.kind) c.args.calls.now c.args.said.now (length xs) c.loop-call.sum e c.loop-call.invariant.1

@@ -1,8 +1,10 @@
-use Rattle.std.proofs.Common.{◌≡◌, ◌≤◌, take}
+use Rattle.std.proofs.Common.{◌≡◌, ◌≤◌, length, take}
 use Rattle.rack.specs.History.{history, total}
 use Rattle.rack.specs.Prices.{column}
 use Rattle.rack.proofs.price.tally.Given as goal
 
 -- the calls so far are counted
-abbrev pub invariant-loop-i : goal.invariant-loop-i
-invariant-loop-i g l = (l.sum ≤ l.i) × (l.sum ≡ total (column l.kind) (history (take l.i l.calls) (take l.i l.said)))
+abbrev pub invariant-loop-call : goal.invariant-loop-call
+invariant-loop-call g l =
+    (l.sum ≤ length l.yielded)
+    × (l.sum ≡ total (column l.kind) (history (take (length l.yielded) l.calls) (take (length l.yielded) l.said)))

@@ -1,5 +1,4 @@
 use Rattle.std.proofs.Common.{◌≡◌, ◌≤◌, length, take, replicate, None, vec_items, vec_len, vec_capacity}
-use Rattle.rack.specs.Racks.{views}
 use Rattle.rack.specs.History.{history}
 use Rattle.rack.specs.Law.{Ran}
 use Rattle.rack.proofs.run.run.Given as goal
@@ -10,4 +9,4 @@ invariant-loop-c g l =
     (l.c-index ≤ length l.calls)
     × (vec_len l.reports ≡ l.c-index)
     × (length l.calls ≤ vec_capacity l.reports)
-    × Ran g.F.Future.step g.S.Schedule (replicate (length l.initial.bays) None) l.initial.policy (history (take l.c-index l.calls) (vec_items l.reports)) (views l.bays) l.policy
+    × Ran g.F.Future.step g.S.Schedule (replicate (length l.fn.bays) None) l.fn.policy (history (take l.c-index l.calls) (vec_items l.reports)) l.bays l.policy

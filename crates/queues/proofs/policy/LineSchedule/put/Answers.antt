@@ -4,7 +4,7 @@ use Rattle.schedule.specs.Entries.{accepts}
 use Rattle.schedule.proofs.Entries.{accepted}
 use Rattle.queues.specs.Ends.{joined}
 use Rattle.queues.specs.Kept.{joined_keeps}
-use Rattle.queues.proofs.Lines.{joined_distinct, joined_below}
+use Rattle.queues.proofs.Lines.{had, joined_distinct, joined_below}
 use Rattle.queues.proofs.policy.LineSchedule.put.Goals as goal
 
 -- there is room, so the bay joins
@@ -16,7 +16,7 @@ invariant_of-self g c =
     let es = deque_items s.bays in
     let a : accepts b es s.places ≡ true = sym c.admits.ensures ∙ c.if-admits.true in
     let free = (accepted b es s.places a).2 in
-    let items : deque_items c.join.new.bays ≡ joined back es b = rw (c.join.ensures.room omega (arith, free, s.bays.ok.0)) at c.join.ensures.items in
+    let items : deque_items c.join.new.bays ≡ joined back es b = had c.join.result _ (c.join.ensures.room omega (arith, free, s.bays.ok.0)) c.join.ensures.ok in
     let l = length_permutation _ _ (joined_keeps back es b) in
     record {
       single = rw items (joined_distinct back b es s.places a s.single);

@@ -1,0 +1,4 @@
+pub mod Step
+pub mod Through
+pub mod Kinds
+pub mod Runs
