@@ -4,4 +4,4 @@
 #[cfg(test)]
 mod policies;
 #[cfg(test)]
-mod polls;
+mod runs;
