@@ -126,6 +126,7 @@ fn main(rt: HostRuntime) -> anyhow::Result<()> {
     println!(rt; "In the queue")?;
     match queue.serve(&DAY, &mut answers) {
         Ok(()) => tell(&rt, &answers)?,
+        // said here and nowhere else, in this program's words
         Err(Unserved::NotEmpty) => println!(rt; "  The queue was in use.")?,
         Err(Unserved::NoRoom) => println!(rt; "  There was no room for the answers.")?,
     }
