@@ -1,9 +1,16 @@
 -- What a call by handle gives. `Step o` says that the call by number said o.
-use Rattle.std.specs.Prelude.{◌≡◌, ℕ, false, Ok, Err, Result}
+use Rattle.std.specs.Prelude.{◌≡◌, ℕ, Bool, false, Ok, Err, Result}
 use Rattle.cell.specs.declared.report.Fault.{Fault}
 use Rattle.cell.specs.declared.report.Report.{Report}
 use Rattle.handles.specs.declared.handle.Handle.{Handle}
 use Rattle.handles.specs.declared.refused.Refused.{Refused}
+
+-- the bay of a handle, and whether it is spent
+abbrev pub bay_of : {K : Type 0} → Handle K → ℕ
+bay_of h = h.bay
+
+abbrev pub is_spent : {K : Type 0} → Handle K → Bool
+is_spent h = h.spent
 
 -- an unspent handle of this bay
 abbrev pub unspent : {K : Type 0} → ℕ → Handle K

@@ -2,7 +2,7 @@
 ghost use Rattle.std.specs.Prelude.{◌≡◌, true, MatchResult};
 ghost use Rattle.cell.specs.declared.call.Call.TheVariants.{At};
 ghost use Rattle.rack.specs.Racks.{Stepped};
-ghost use Rattle.handles.specs.Handles.{unspent, Gives};
+ghost use Rattle.handles.specs.Handles.{unspent, Gives, bay_of, is_spent};
 
 use super::refused::Refused;
 use super::waker::Waker;
@@ -32,7 +32,7 @@ pub trait Wakes {}
 impl<K> Drop for Handle<K> {
     // A handle may be let go only when it is spent.
     fn drop(self)
-        requires { self.spent ≡ true }
+        requires { is_spent self ≡ true }
     {
         let Handle {
             bay: _,
@@ -55,7 +55,7 @@ impl<K> Handle<K> {
 
     // The number of its bay.
     pub fn bay(&self) -> u32
-        ensures { result ≡ self.now.bay }
+        ensures { result ≡ bay_of self.now }
     {
         self.bay
     }
@@ -91,7 +91,7 @@ impl<K: Clones> Handle<K> {
         bays: &mut [Bay<F, F::Output>],
         policy: &mut S,
     ) -> Result<Waker, Fault>
-        ensures { Gives (λ _. unspent self.now.bay) (λ o. Stepped F.Future.step S.Schedule bays.old policy.old (At self.now.bay (Act.Clone)) o bays.new policy.new) result }
+        ensures { Gives (λ _. unspent (bay_of self.now)) (λ o. Stepped F.Future.step S.Schedule bays.old policy.old (At (bay_of self.now) (Act.Clone)) o bays.new policy.new) result }
     {
         calls::clone(bays, policy, self.bay)?;
         Ok(Waker::new(self.bay))
@@ -105,7 +105,7 @@ impl<K: Wakes> Handle<K> {
         bays: &mut [Bay<F, F::Output>],
         policy: &mut S,
     ) -> Said<F::Output>
-        ensures { Stepped F.Future.step S.Schedule bays.old policy.old (At self.now.bay (Act.WakeByRef)) result bays.new policy.new }
+        ensures { Stepped F.Future.step S.Schedule bays.old policy.old (At (bay_of self.now) (Act.WakeByRef)) result bays.new policy.new }
     {
         calls::wake_by_ref(bays, policy, self.bay)
     }

@@ -1,7 +1,7 @@
 // The Polled: a Runnable whose future has been polled is spent by finish, which exists here alone.
 ghost use Rattle.cell.specs.declared.call.Call.TheVariants.{At};
 ghost use Rattle.rack.specs.Racks.{Stepped};
-ghost use Rattle.handles.specs.Handles.{Spends};
+ghost use Rattle.handles.specs.Handles.{Spends, bay_of};
 
 use super::handle::{Clones, Handle, Wakes};
 use super::refused::Refused;
@@ -29,7 +29,7 @@ impl Polled {
         bays: &mut [Bay<F, F::Output>],
         policy: &mut S,
     ) -> Result<Report<F::Output>, Refused<Polled>>
-        ensures { Spends self (λ r. r) (λ o. Stepped F.Future.step S.Schedule bays.old policy.old (At self.bay (Act.Finish)) o bays.new policy.new) result }
+        ensures { Spends self (λ r. r) (λ o. Stepped F.Future.step S.Schedule bays.old policy.old (At (bay_of self) (Act.Finish)) o bays.new policy.new) result }
     {
         let bay = self.bay();
         self.settle(calls::finish(bays, policy, bay))

@@ -3,7 +3,7 @@ ghost use Rattle.std.specs.Prelude.{option_map, if◌then◌else◌};
 ghost use Rattle.cell.specs.declared.call.Call.TheVariants.{Spawn, Take, At};
 ghost use Rattle.cell.specs.Events.{finds, is_begun};
 ghost use Rattle.rack.specs.Racks.{Stepped};
-ghost use Rattle.handles.specs.Handles.{unspent, Spends, Gives};
+ghost use Rattle.handles.specs.Handles.{unspent, Spends, Gives, bay_of};
 
 use super::handle::{Clones, Handle};
 use super::refused::Refused;
@@ -59,7 +59,7 @@ impl Runnable {
         bays: &mut [Bay<F, F::Output>],
         policy: &mut S,
     ) -> Result<Report<F::Output>, Refused<Runnable>>
-        ensures { Spends self (λ r. r) (λ o. Stepped F.Future.step S.Schedule bays.old policy.old (At self.bay (Act.Schedule)) o bays.new policy.new) result }
+        ensures { Spends self (λ r. r) (λ o. Stepped F.Future.step S.Schedule bays.old policy.old (At (bay_of self) (Act.Schedule)) o bays.new policy.new) result }
     {
         let bay = self.bay();
         self.settle(calls::schedule(bays, policy, bay))
@@ -71,7 +71,7 @@ impl Runnable {
         bays: &mut [Bay<F, F::Output>],
         policy: &mut S,
     ) -> Result<(Option<Running>, Report<F::Output>), Refused<Runnable>>
-        ensures { Spends self (λ r. ((if is_begun r.answer then Some (unspent self.bay) else None), r)) (λ o. Stepped F.Future.step S.Schedule bays.old policy.old (At self.bay (Act.Begin)) o bays.new policy.new) result }
+        ensures { Spends self (λ r. ((if is_begun r.answer then Some (unspent (bay_of self)) else None), r)) (λ o. Stepped F.Future.step S.Schedule bays.old policy.old (At (bay_of self) (Act.Begin)) o bays.new policy.new) result }
     {
         let bay = self.bay();
         let report = self.settle(calls::begin(bays, policy, bay))?;
@@ -87,7 +87,7 @@ impl Runnable {
         bays: &mut [Bay<F, F::Output>],
         policy: &mut S,
     ) -> Result<Report<F::Output>, Refused<Runnable>>
-        ensures { Spends self (λ r. r) (λ o. Stepped F.Future.step S.Schedule bays.old policy.old (At self.bay (Act.DropRunnable)) o bays.new policy.new) result }
+        ensures { Spends self (λ r. r) (λ o. Stepped F.Future.step S.Schedule bays.old policy.old (At (bay_of self) (Act.DropRunnable)) o bays.new policy.new) result }
     {
         let bay = self.bay();
         self.settle(calls::drop_runnable(bays, policy, bay))

@@ -1,7 +1,7 @@
 // The Running: a Runnable that has begun becomes a Polled by poll.
 ghost use Rattle.cell.specs.declared.call.Call.TheVariants.{At};
 ghost use Rattle.rack.specs.Racks.{Stepped};
-ghost use Rattle.handles.specs.Handles.{unspent, Spends};
+ghost use Rattle.handles.specs.Handles.{unspent, Spends, bay_of};
 
 use super::handle::{Clones, Handle, Wakes};
 use super::polled::Polled;
@@ -31,7 +31,7 @@ impl Running {
         policy: &mut S,
         word: u32,
     ) -> Result<(Polled, Report<F::Output>), Refused<Running>>
-        ensures { Spends self (λ r. (unspent self.bay, r)) (λ o. Stepped F.Future.step S.Schedule bays.old policy.old (At self.bay (Act.Poll word)) o bays.new policy.new) result }
+        ensures { Spends self (λ r. (unspent (bay_of self), r)) (λ o. Stepped F.Future.step S.Schedule bays.old policy.old (At (bay_of self) (Act.Poll word)) o bays.new policy.new) result }
     {
         let bay = self.bay();
         let report = self.settle(calls::poll(bays, policy, bay, word))?;

@@ -1,7 +1,7 @@
 // The Task: asks for the output, and cancels.
 ghost use Rattle.cell.specs.declared.call.Call.TheVariants.{At};
 ghost use Rattle.rack.specs.Racks.{Stepped};
-ghost use Rattle.handles.specs.Handles.{Spends};
+ghost use Rattle.handles.specs.Handles.{Spends, bay_of};
 
 use super::handle::Handle;
 use super::refused::Refused;
@@ -26,7 +26,7 @@ impl Task {
         policy: &mut S,
         waiter: u32,
     ) -> Said<F::Output>
-        ensures { Stepped F.Future.step S.Schedule bays.old policy.old (At self.now.bay (Act.PollTask waiter)) result bays.new policy.new }
+        ensures { Stepped F.Future.step S.Schedule bays.old policy.old (At (bay_of self.now) (Act.PollTask waiter)) result bays.new policy.new }
     {
         calls::poll_task(bays, policy, self.bay(), waiter)
     }
@@ -37,7 +37,7 @@ impl Task {
         bays: &mut [Bay<F, F::Output>],
         policy: &mut S,
     ) -> Said<F::Output>
-        ensures { Stepped F.Future.step S.Schedule bays.old policy.old (At self.now.bay (Act.Cancel)) result bays.new policy.new }
+        ensures { Stepped F.Future.step S.Schedule bays.old policy.old (At (bay_of self.now) (Act.Cancel)) result bays.new policy.new }
     {
         calls::cancel(bays, policy, self.bay())
     }
@@ -48,7 +48,7 @@ impl Task {
         bays: &mut [Bay<F, F::Output>],
         policy: &mut S,
     ) -> Result<Report<F::Output>, Refused<Task>>
-        ensures { Spends self (λ r. r) (λ o. Stepped F.Future.step S.Schedule bays.old policy.old (At self.bay (Act.Detach)) o bays.new policy.new) result }
+        ensures { Spends self (λ r. r) (λ o. Stepped F.Future.step S.Schedule bays.old policy.old (At (bay_of self) (Act.Detach)) o bays.new policy.new) result }
     {
         let bay = self.bay();
         self.settle(calls::detach(bays, policy, bay))
@@ -60,7 +60,7 @@ impl Task {
         bays: &mut [Bay<F, F::Output>],
         policy: &mut S,
     ) -> Result<Report<F::Output>, Refused<Task>>
-        ensures { Spends self (λ r. r) (λ o. Stepped F.Future.step S.Schedule bays.old policy.old (At self.bay (Act.DropTask)) o bays.new policy.new) result }
+        ensures { Spends self (λ r. r) (λ o. Stepped F.Future.step S.Schedule bays.old policy.old (At (bay_of self) (Act.DropTask)) o bays.new policy.new) result }
     {
         let bay = self.bay();
         self.settle(calls::drop_task(bays, policy, bay))

@@ -1,7 +1,7 @@
 // A waker: wakes the task of its bay.
 ghost use Rattle.cell.specs.declared.call.Call.TheVariants.{At};
 ghost use Rattle.rack.specs.Racks.{Stepped};
-ghost use Rattle.handles.specs.Handles.{Spends};
+ghost use Rattle.handles.specs.Handles.{Spends, bay_of};
 
 use super::handle::{Clones, Handle, Wakes};
 use super::refused::Refused;
@@ -29,7 +29,7 @@ impl Waker {
         bays: &mut [Bay<F, F::Output>],
         policy: &mut S,
     ) -> Result<Report<F::Output>, Refused<Waker>>
-        ensures { Spends self (λ r. r) (λ o. Stepped F.Future.step S.Schedule bays.old policy.old (At self.bay (Act.Wake)) o bays.new policy.new) result }
+        ensures { Spends self (λ r. r) (λ o. Stepped F.Future.step S.Schedule bays.old policy.old (At (bay_of self) (Act.Wake)) o bays.new policy.new) result }
     {
         let bay = self.bay();
         self.settle(calls::wake(bays, policy, bay))
@@ -41,7 +41,7 @@ impl Waker {
         bays: &mut [Bay<F, F::Output>],
         policy: &mut S,
     ) -> Result<Report<F::Output>, Refused<Waker>>
-        ensures { Spends self (λ r. r) (λ o. Stepped F.Future.step S.Schedule bays.old policy.old (At self.bay (Act.DropWaker)) o bays.new policy.new) result }
+        ensures { Spends self (λ r. r) (λ o. Stepped F.Future.step S.Schedule bays.old policy.old (At (bay_of self) (Act.DropWaker)) o bays.new policy.new) result }
     {
         let bay = self.bay();
         self.settle(calls::drop_waker(bays, policy, bay))
