@@ -15,7 +15,7 @@ under_slot (Some f) b es es' s = IsPermutation-trans _ _ _ (swapped b f es) (IsP
 -- if the policy below does
 module _ {X : Type 0} (P : Ghosts X) (keeps : (s : X) (b : ℕ) (m : Bool) → P.agrees s → IsPermutation (b ∷ P.entries s) (P.after s b m)) where
   -- the entries below and the slot's bay, once that has gone below
-  lowered_keeps : (slot : Option ℕ) (below : X) → P.agrees below → could_go slot (P.entries below) (P.places below) ≡ true → IsPermutation (slotted slot (P.entries below)) (lowered P slot below)
+  pub lowered_keeps : (slot : Option ℕ) (below : X) → P.agrees below → could_go slot (P.entries below) (P.places below) ≡ true → IsPermutation (slotted slot (P.entries below)) (lowered P slot below)
   lowered_keeps None below g k = IsPermutation-refl (P.entries below)
   lowered_keeps (Some f) below g k =
       subst (λ (t : Bool). IsPermutation (f ∷ P.entries below) (cond t (P.after below f false) (P.entries below))) (sym k) (keeps below f false g)

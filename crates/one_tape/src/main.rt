@@ -107,7 +107,7 @@ fn tell(rt: &HostRuntime, answers: &[Answer]) -> anyhow::Result<()> {
                 println!(rt; "  Bay {bay} joins the queue for the machine.")?
             }
             (Request::Put { bay, .. }, _) => println!(rt; "  Bay {bay} cannot join the queue.")?,
-            (Request::Take, Answer::Gave(Some(bay))) => {
+            (Request::Take, Answer::Gave(bay)) => {
                 println!(rt; "The machine takes bay {bay}, which has waited longest.")?;
                 if let Some(tape) = TAPES.get(bay as usize) {
                     play(rt, tape)?;

@@ -13,12 +13,23 @@ pub trait End {
     // whether it is the back
     ghost back: { Bool };
 
+    // Whether a new bay joins behind the others, and not before them.
+    fn is_back() -> bool
+        ensures { result ≡ back };
+
     // Puts a bay in at this end; where it lacks memory for it, it changes nothing.
     fn join(bays: &mut VecDeque<u32>, bay: u32) -> Result<(), AllocError>
         ensures ok { OnOk result (bays.new.items ≡ joined back bays.old.items bay) }
         ensures err { OnErr result (bays.new.items ≡ bays.old.items) }
         ensures room { deque_len bays.old < deque_capacity bays.old → IsOk result }
-        ensures capacity { deque_capacity bays.old ≤ deque_capacity bays.new };
+        ensures capacity { deque_capacity bays.old ≤ deque_capacity bays.new }
+    {
+        if Self::is_back() {
+            Ok(bays.push_back(bay)?)
+        } else {
+            Ok(bays.push_front(bay)?)
+        }
+    }
 }
 
 // Behind the others.
@@ -27,8 +38,8 @@ pub struct Back;
 impl End for Back {
     ghost back = { true };
 
-    fn join(bays: &mut VecDeque<u32>, bay: u32) -> Result<(), AllocError> {
-        Ok(bays.push_back(bay)?)
+    fn is_back() -> bool {
+        true
     }
 }
 
@@ -38,8 +49,8 @@ pub struct Front;
 impl End for Front {
     ghost back = { false };
 
-    fn join(bays: &mut VecDeque<u32>, bay: u32) -> Result<(), AllocError> {
-        Ok(bays.push_front(bay)?)
+    fn is_back() -> bool {
+        false
     }
 }
 

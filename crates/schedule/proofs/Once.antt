@@ -1,5 +1,5 @@
 -- What goes in comes out once: by induction over the requests.
-use Rattle.std.proofs.Common.{◌≡◌, ℕ, ◌+◌, Bool, true, false, Some, None, not, ◌&&◌, ltb, List, [], ◌∷◌, length, sym, refl, ap, ◌∙◌, arith, length-append}
+use Rattle.std.proofs.Common.{◌≡◌, ℕ, ◌+◌, Bool, true, false, not, ◌&&◌, ltb, List, [], ◌∷◌, length, sym, refl, ap, ◌∙◌, arith, length-append}
 use Rattle.std.proofs.lemmas.Bool.{eq-eqb}
 use Rattle.std.proofs.lemmas.Bool.Decides.{nat_tests}
 use Rattle.std.proofs.lemmas.List.Sorted.{length_permutation as length-shuffled}
@@ -8,7 +8,7 @@ use Rattle.schedule.specs.declared.Schedule.{Ghosts}
 use Rattle.schedule.specs.declared.requests.Request.{Request}
 use Rattle.schedule.specs.declared.requests.Request.TheVariants.{Put, Take}
 use Rattle.schedule.specs.declared.requests.Answer.{Answer}
-use Rattle.schedule.specs.declared.requests.Answer.TheVariants.{Accepted, Gave}
+use Rattle.schedule.specs.declared.requests.Answer.TheVariants.{Accepted, Gave, Empty}
 use Rattle.schedule.specs.Entries.{is_in, distinct, accepts}
 use Rattle.schedule.specs.History.{Event, event, put_in, took_out, ins, outs, times, inside, held, Each}
 use Rattle.schedule.specs.Requests.{Obeys, Ran, Ruled, Once}
@@ -80,7 +80,7 @@ module _ {S : Type 0} (P : Ghosts S)
       let l : length (P.entries s) ≡ length (b ∷ es) = ap length q in
       let l' : length (P.entries s') ≡ length es = ap length i in
       let held_by = held_is h (P.entries s) k.long in
-      keeps_more n h (event Take (Gave (Some b))) s s' k g p
+      keeps_more n h (event Take (Gave b)) s s' k g p
       (inside_is b h (P.entries s) (k.balance b) ∙ ap (is_in b) q ∙ (let t = eq-eqb b b refl in rw t refl), omega arith)
       (λ c. let v : times c (P.entries s') ≡ times c es = ap (times c) i in
       let w : times c (P.entries s) ≡ times c (b ∷ es) = ap (times c) q in
@@ -91,7 +91,7 @@ module _ {S : Type 0} (P : Ghosts S)
   kept_by n h e s s' k g p (none_there q i) =
       let l : length (P.entries s) ≡ 0 = ap length q in
       let l' : length (P.entries s') ≡ 0 = ap length i in
-      keeps_more n h (event Take (Gave None)) s s' k g p (held_is h (P.entries s) k.long ∙ l)
+      keeps_more n h (event Take Empty) s s' k g p (held_is h (P.entries s) k.long ∙ l)
       (λ c. let v : times c (P.entries s') ≡ times c (P.entries s) = ap (times c) (i ∙ sym q) in omega arith)
       (omega arith)
 

@@ -1,8 +1,8 @@
 -- Policies that put last, and policies that put first.
-use Rattle.std.proofs.Common.{◌≡◌, ℕ, ◌+◌, Bool, true, false, Some, None, List, [], ◌∷◌, ◌++◌, sym, refl, ap, ◌∙◌, subst, append_assoc, append-nil, arith}
+use Rattle.std.proofs.Common.{◌≡◌, ℕ, ◌+◌, Bool, true, false, List, [], ◌∷◌, ◌++◌, sym, refl, ap, ◌∙◌, subst, append_assoc, append-nil, arith}
 use Rattle.schedule.specs.declared.Schedule.{Ghosts}
 use Rattle.schedule.specs.declared.requests.Request.TheVariants.{Put, Take}
-use Rattle.schedule.specs.declared.requests.Answer.TheVariants.{Accepted, Gave}
+use Rattle.schedule.specs.declared.requests.Answer.TheVariants.{Accepted, Gave, Empty}
 use Rattle.schedule.specs.History.{Event, event, put_in, took_out, in_order, ins, outs, times}
 use Rattle.schedule.specs.Requests.{Ran}
 use Rattle.schedule.specs.Turns.{FirstInFirstOut, IsLast, LastInFirstOut}
@@ -18,8 +18,8 @@ module _ {S : Type 0} (P : Ghosts S) (last : (s : S) (b : ℕ) (m : Bool) → P.
   fifo_by : (h : List Event) (e : Event) (s s' : S) → FirstInFirstOut h (P.entries s) → Happens P s s' e → FirstInFirstOut (e ∷ h) (P.entries s')
   fifo_by h e s s' k (goes_in b m t i) = fifo_moved h (event (Put b m) (Accepted true)) (P.entries s) (P.entries s') k (sym (i ∙ last s b m))
   fifo_by h e s s' k (stays_out b m t i) = fifo_moved h (event (Put b m) (Accepted false)) (P.entries s) (P.entries s') k (append-nil (P.entries s) ∙ sym i)
-  fifo_by h e s s' k (comes_out b es q i) = fifo_moved h (event Take (Gave (Some b))) (P.entries s) (P.entries s') k (append-nil (P.entries s) ∙ q ∙ ap (λ x. b ∷ x) (sym i))
-  fifo_by h e s s' k (none_there q i) = fifo_moved h (event Take (Gave None)) (P.entries s) (P.entries s') k (append-nil (P.entries s) ∙ q ∙ sym i)
+  fifo_by h e s s' k (comes_out b es q i) = fifo_moved h (event Take (Gave b)) (P.entries s) (P.entries s') k (append-nil (P.entries s) ∙ q ∙ ap (λ x. b ∷ x) (sym i))
+  fifo_by h e s s' k (none_there q i) = fifo_moved h (event Take Empty) (P.entries s) (P.entries s') k (append-nil (P.entries s) ∙ q ∙ sym i)
 
   pub fifo : (start s : S) (h : List Event) → P.entries start ≡ [] → Ran P start h s → FirstInFirstOut h (P.entries s)
   fifo start s h e ran =
@@ -55,15 +55,15 @@ aside (b ∷ es) e h i o (l, rest) = (
 )
 
 -- the first entry is taken: what stood behind it has nothing before it now
-taken : (b : ℕ) (es : List ℕ) (h : List Event) → Piled (b ∷ es) h → Piled es (event Take (Gave (Some b)) ∷ h)
+taken : (b : ℕ) (es : List ℕ) (h : List Event) → Piled (b ∷ es) h → Piled es (event Take (Gave b) ∷ h)
 taken b [] h p = tt
 taken b (c ∷ es) h (l, (n, rest)) =
     let put_b = event (Put b l.mark) (Accepted true) in (
       record {
         mark = n.mark;
-        since = event Take (Gave (Some b)) ∷ (l.since ++ put_b ∷ n.since);
+        since = event Take (Gave b) ∷ (l.since ++ put_b ∷ n.since);
         older = n.older;
-        put = ap (λ x. event Take (Gave (Some b)) ∷ x) (l.put ∙ ap (λ x. l.since ++ put_b ∷ x) n.put ∙ sym (append_assoc l.since (put_b ∷ n.since) (event (Put c n.mark) (Accepted true) ∷ n.older)));
+        put = ap (λ x. event Take (Gave b) ∷ x) (l.put ∙ ap (λ x. l.since ++ put_b ∷ x) n.put ∙ sym (append_assoc l.since (put_b ∷ n.since) (event (Put c n.mark) (Accepted true) ∷ n.older)));
         settled = λ k.
             (let i = times_in_order put_in k l.since (put_b ∷ n.since) in
             let o = times_in_order took_out k l.since (put_b ∷ n.since) in
@@ -92,8 +92,8 @@ module _ {S : Type 0} (P : Ghosts S) (top : (s : S) (b : ℕ) (m : Bool) → P.a
       ((tt, k.0), subst (λ es. Piled es (event (Put b m) (Accepted false) ∷ h)) (sym i) (aside (P.entries s) (event (Put b m) (Accepted false)) h refl refl k.1))
   lifo_by h e s s' k (comes_out b es q i) =
       let p = subst (λ x. Piled x h) q k.1 in
-      ((p.0, k.0), subst (λ x. Piled x (event Take (Gave (Some b)) ∷ h)) (sym i) (taken b es h p))
-  lifo_by h e s s' k (none_there q i) = ((tt, k.0), subst (λ x. Piled x (event Take (Gave None) ∷ h)) (sym i) tt)
+      ((p.0, k.0), subst (λ x. Piled x (event Take (Gave b) ∷ h)) (sym i) (taken b es h p))
+  lifo_by h e s s' k (none_there q i) = ((tt, k.0), subst (λ x. Piled x (event Take Empty ∷ h)) (sym i) tt)
 
   pub lifo : (start s : S) (h : List Event) → P.entries start ≡ [] → Ran P start h s → LastInFirstOut h
   lifo start s h e ran =

@@ -1,9 +1,9 @@
 -- What happened to a policy: the requests it was given, each with its answer, the newest first.
-use Rattle.std.specs.Prelude.{ℕ, ◌-◌, Bool, true, false, Some, None, List, [], ◌∷◌, ◌++◌, reverse, length, count_by, nat_eq, nat_lt}
+use Rattle.std.specs.Prelude.{ℕ, ◌-◌, Bool, true, false, List, [], ◌∷◌, ◌++◌, reverse, length, count_by, nat_eq, nat_lt}
 use Rattle.schedule.specs.declared.requests.Request.{Request}
 use Rattle.schedule.specs.declared.requests.Request.TheVariants.{Put, Take}
 use Rattle.schedule.specs.declared.requests.Answer.{Answer}
-use Rattle.schedule.specs.declared.requests.Answer.TheVariants.{Accepted, Gave}
+use Rattle.schedule.specs.declared.requests.Answer.TheVariants.{Accepted, Gave, Empty}
 
 -- a request and its answer
 pub data Event : Type 0 where
@@ -23,15 +23,16 @@ history requests answers = reverse (beside requests answers)
 abbrev pub put_in : Event → List ℕ
 put_in (event (Put b m) (Accepted true)) = b ∷ []
 put_in (event (Put b m) (Accepted false)) = []
-put_in (event (Put b m) (Gave out)) = []
+put_in (event (Put b m) (Gave c)) = []
+put_in (event (Put b m) Empty) = []
 put_in (event Take a) = []
 
 -- the number that an event took out: that which a take gave
 abbrev pub took_out : Event → List ℕ
 took_out (event (Put b m) a) = []
 took_out (event Take (Accepted t)) = []
-took_out (event Take (Gave (Some b))) = b ∷ []
-took_out (event Take (Gave None)) = []
+took_out (event Take (Gave b)) = b ∷ []
+took_out (event Take Empty) = []
 
 -- what each event gives, one after another, the oldest first
 abbrev pub in_order : (Event → List ℕ) → List Event → List ℕ

@@ -4,11 +4,16 @@ use Rattle.schedule.specs.declared.Schedule.{Ghosts}
 use Rattle.schedule.specs.declared.requests.Request.{Request}
 use Rattle.schedule.specs.declared.requests.Request.TheVariants.{Put, Take}
 use Rattle.schedule.specs.declared.requests.Answer.{Answer}
-use Rattle.schedule.specs.declared.requests.Answer.TheVariants.{Accepted, Gave}
+use Rattle.schedule.specs.declared.requests.Answer.TheVariants.{Accepted, Gave, Empty}
 use Rattle.schedule.specs.declared.requests.Unserved.{Unserved}
 use Rattle.schedule.specs.declared.requests.Unserved.TheVariants.{NotEmpty, NoRoom}
 use Rattle.schedule.specs.Entries.{first, accepts}
 use Rattle.schedule.specs.History.{Event, event, history, ins, outs, times, inside, held, Each}
+
+-- the answer of a take
+abbrev pub given : Option ℕ → Answer
+given None = Empty
+given (Some b) = Gave b
 
 -- One request: the policy was s, gave the answer, and is s'.
 abbrev pub Obeys : {S : Type 0} → Ghosts S → S → Request → Answer → S → Type 0
@@ -19,7 +24,7 @@ Obeys P s (Put b m) a s' =
     × (P.agrees s → P.agrees s')
     × (accepts b (P.entries s) (P.places s) ≡ false → s' ≡ s)
 Obeys P s Take a s' =
-    (a ≡ Gave (first (P.entries s)))
+    (a ≡ given (first (P.entries s)))
     × (P.entries s' ≡ drop 1 (P.entries s))
     × (P.places s' ≡ P.places s)
     × (P.agrees s → P.agrees s')
@@ -30,13 +35,13 @@ pub data Ran {S : Type 0} (P : Ghosts S) (start : S) : List Event → S → Type
   more : {h : List Event} {s s' : S} (r : Request) (a : Answer) → Ran P start h s → Obeys P s r a s' → Ran P start (event r a ∷ h) s'
 
 -- Each answer follows from the history before it: a put is accepted exactly if the number is below 64 and not inside,
--- and fewer numbers are held than there are places; a take gives a number that is inside, and None exactly if none is held.
+-- and fewer numbers are held than there are places; a take gives a number that is inside, and is Empty exactly if none is held.
 abbrev pub Ruled : ℕ → List Event → Event → Type 0
 Ruled places before (event (Put b m) a) =
     a ≡ Accepted (nat_lt b 64 && (not (inside b before) && nat_lt (held before) places))
 Ruled places before (event Take (Accepted t)) = ⊥
-Ruled places before (event Take (Gave (Some b))) = (inside b before ≡ true) × (0 < held before)
-Ruled places before (event Take (Gave None)) = held before ≡ 0
+Ruled places before (event Take (Gave b)) = (inside b before ≡ true) × (0 < held before)
+Ruled places before (event Take Empty) = held before ≡ 0
 
 -- What goes in comes out once.
 pub record Once (places : ℕ) (h : List Event) (left : List ℕ) : Type 0 where

@@ -1,7 +1,7 @@
 -- Who is next, by what happened before: two orders of service.
-use Rattle.std.specs.Prelude.{◌≡◌, ℕ, Bool, true, Some, None, List, ◌∷◌, ◌++◌}
+use Rattle.std.specs.Prelude.{◌≡◌, ℕ, Bool, true, List, ◌∷◌, ◌++◌}
 use Rattle.schedule.specs.declared.requests.Request.TheVariants.{Put, Take}
-use Rattle.schedule.specs.declared.requests.Answer.TheVariants.{Accepted, Gave}
+use Rattle.schedule.specs.declared.requests.Answer.TheVariants.{Accepted, Gave, Empty}
 use Rattle.schedule.specs.History.{Event, event, ins, outs, times, Each}
 
 -- First in, first out: the numbers put in, one after another, are those taken out and then those left.
@@ -24,8 +24,8 @@ pub record IsLast (b : ℕ) (h : List Event) : Type 0 where
 abbrev pub GivesLast : List Event → Event → Type 0
 GivesLast before (event (Put b m) a) = Unit {0}
 GivesLast before (event Take (Accepted t)) = Unit {0}
-GivesLast before (event Take (Gave (Some b))) = IsLast b before
-GivesLast before (event Take (Gave None)) = Unit {0}
+GivesLast before (event Take (Gave b)) = IsLast b before
+GivesLast before (event Take Empty) = Unit {0}
 
 -- Last in, first out.
 abbrev pub LastInFirstOut : List Event → Type 0

@@ -11,11 +11,13 @@ pub enum Request {
     Take,
 }
 
-// What it answered: to a put, whether it accepted the bay; to a take, the bay that it gave, if it had one.
+// What it answered: to a put, whether it accepted the bay; to a take, the bay that it gave, or that it was empty. The
+// last two are no Option: an enum within an enum has a tag of its own, and an answer would take half as much memory again.
 #[derive(Clone, Copy)]
 pub enum Answer {
     Accepted(bool),
-    Gave(Option<u32>),
+    Gave(u32),
+    Empty,
 }
 
 // Why no request of a list was carried out.
@@ -34,7 +36,10 @@ fn obey<S: Schedule>(policy: &mut S, request: Request) -> Answer
             bay,
             woken_while_running,
         } => Answer::Accepted(policy.put(bay, woken_while_running)),
-        Request::Take => Answer::Gave(policy.take()),
+        Request::Take => match policy.take() {
+            Some(bay) => Answer::Gave(bay),
+            None => Answer::Empty,
+        },
     }
 }
 
