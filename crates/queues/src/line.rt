@@ -13,7 +13,7 @@ pub trait End {
     // whether it is the back
     ghost back: { Bool };
 
-    // Whether a new bay joins behind the others, and not before them.
+    // Whether a new bay joins behind the others, and not before them. Beside `join`, as this cannot fail.
     fn is_back() -> bool
         ensures { result ≡ back };
 
